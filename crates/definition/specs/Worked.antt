@@ -1,0 +1,165 @@
+-- The cases that document 01 works by hand and marks [P], as one table: the seven distances, the runs, and the schedule program's whole
+-- case, each with what it must give. proofs/Worked shows by computation that the definition gives it. Assumes nothing.
+use mathlib.Core.List.{List, [], _∷_, _++_, map}
+use Prim.Native.Nat.{ℕ, zero, suc, _+_}
+use lib.IntN.{ℤ}
+use lib.ListN.{replicate}
+use Rattle.epoch.specs.Epoch.{wrappingSub}
+use Rattle.epoch.specs.Distances.{Distance, distances}
+use Rattle.definition.specs.Base.{branch}
+use Rattle.definition.specs.Links.{isNull, index}
+use Rattle.definition.specs.Bags.{items}
+use Rattle.definition.specs.Tables.{Tables}
+use Rattle.definition.specs.Step.{Out}
+use Rattle.definition.specs.Ranges.{fresh}
+use Rattle.definition.specs.Runs.{Event, does}
+use Rattle.definition.specs.Schedule.{schedule}
+use Rattle.definition.specs.Types.{Item, Call, Answer, node}
+
+-- tokens freed, and in which step of the operation
+pub record Freed : Type 0 where
+  pub inStep : ℕ
+  pub tokens : List ℕ
+
+-- a bag in the queue: its seal and its length
+pub record Queued : Type 0 where
+  pub seal : ℕ
+  pub len : ℕ
+
+-- what a run shows of its last operation: its steps, its answer, what it freed when; then participant 0's word, the global word, the
+-- items that participant 0 holds, and the queue
+pub record Shown : Type 0 where
+  pub steps : ℕ
+  pub answer : Answer
+  pub freed : List Freed
+  pub own : ℕ
+  pub global : ℕ
+  pub holds : List Item
+  pub queue : List Queued
+
+-- a question: a distance; operations of participant 0, one after another, each stepped to its end, with N participants and M nodes; the
+-- output for an input of the schedule program
+pub data Question : Type 0 where
+  distance : (a b : ℕ) → Question
+  operations : (N M : ℕ) → List Event → Question
+  output : List ℕ → Question
+
+pub data Reply : Type 0 where
+  isNumber : ℤ → Reply
+  isShown : Shown → Reply
+  isBytes : List ℕ → Reply
+
+-- an operation under way: the tables, the last answer, the steps made, what was freed so far
+pub record Underway : Type 0 where
+  pub tables : Tables
+  pub answer : Answer
+  pub steps : ℕ
+  pub freed : List Freed
+
+unfoldable pub noted : ℕ → List ℕ → List Freed → List Freed
+noted k [] l = l
+noted k (t ∷ ts) l = l ++ record { inStep = k; tokens = t ∷ ts } ∷ []
+
+module _ (N M : ℕ) where
+  unfoldable pub begun : Event → Tables → Underway
+  begun v t = let o : Out = does N M v t in record { tables = o .tables; answer = o .answer; steps = 0; freed = [] }
+
+  -- steps of participant 0 until the answer is no longer `more`, `fuel` at most
+  unfoldable pub stepped : ℕ → Underway → Underway
+  stepped zero u = u
+  stepped (suc fuel) u = elim (u .answer) [
+    | Answer.More k ↦ let o : Out = does N M (Event.steps 0) (u .tables) in
+        stepped fuel (record { tables = o .tables; answer = o .answer; steps = u .steps + 1; freed = noted (u .steps + 1) (o .freed) (u .freed) })
+    | Answer.Done v k ↦ u
+    | Answer.Refused r ↦ u
+  ]
+
+  unfoldable pub operated : List Event → Underway → Underway
+  operated [] u = u
+  operated (v ∷ l) u = operated l (stepped 30 (begun v (u .tables)))
+
+-- the bags after the node h, along the links
+unfoldable pub along : ℕ → ℕ → Tables → List Queued
+along zero h t = []
+along (suc fuel) h t =
+    let w : ℕ = t .shared .nodeNext h in
+    branch (isNull w) [] (record { seal = t .bag (index w) .epoch; len = t .bag (index w) .len } ∷ along fuel (index w) t)
+
+unfoldable pub shown : ℕ → Underway → Shown
+shown M u = record {
+  steps = u .steps;
+  answer = u .answer;
+  freed = u .freed;
+  own = u .tables .shared .word 0;
+  global = u .tables .shared .globalEpoch;
+  holds = items (u .tables .own 0 .held) (u .tables .held 0);
+  queue = along M (index (u .tables .shared .queueHead)) (u .tables);
+}
+
+unfoldable pub reply : Question → Reply
+reply (Question.distance a b) = Reply.isNumber (wrappingSub a b)
+reply (Question.operations N M l) =
+    Reply.isShown (shown M (operated N M l (record { tables = fresh N M; answer = Answer.Done 0 0; steps = 0; freed = [] })))
+reply (Question.output b) = Reply.isBytes (schedule b)
+
+pub record Case : Type 0 where
+  pub asks : Question
+  pub gives : Reply
+
+abbrev pub ofDistance : Distance → Case
+ofDistance d = record { asks = Question.distance (d .a) (d .b); gives = Reply.isNumber (d .distance) }
+
+-- one participant, two nodes
+abbrev pub plays : List Event → ℕ → Answer → List Freed → ℕ → ℕ → List Item → List Queued → Case
+plays l k a f own global bag queue = record {
+  asks = Question.operations 1 2 l;
+  gives = Reply.isShown (record { steps = k; answer = a; freed = f; own = own; global = global; holds = bag; queue = queue });
+}
+
+abbrev pub pin : Event
+pin = Event.calls 0 Call.Pin
+
+abbrev pub unpin : Event
+unpin = Event.calls 0 Call.Unpin
+
+abbrev pub flush : Event
+flush = Event.calls 0 Call.Flush
+
+abbrev pub done : Answer
+done = Answer.Done 0 0
+
+-- after the first pin: defer 7, flush; then unpin, pin, flush
+abbrev pub flushed : List Event
+flushed = Event.registers ∷ pin ∷ Event.calls 0 (Call.Defer 7) ∷ flush ∷ []
+
+abbrev pub again : List Event
+again = flushed ++ unpin ∷ pin ∷ flush ∷ []
+
+abbrev pub one : List Queued
+one = record { seal = 2; len = 1 } ∷ []
+
+unfoldable pub table : List Case
+table = map ofDistance distances ++
+    -- sole participant, first pin: 9 steps, own word 1, global word 2; unpin 1 step; second pin 2 steps, word 3
+    plays (Event.registers ∷ pin ∷ []) 9 done [] 1 2 [] []
+    ∷ plays (Event.registers ∷ pin ∷ unpin ∷ []) 1 done [] 0 2 [] []
+    ∷ plays (Event.registers ∷ pin ∷ unpin ∷ pin ∷ []) 2 done [] 3 2 [] []
+    -- defer 7, flush: 11 steps, sealed with word 2, nothing freed; unpin, pin, then flush in 7 steps, global word 4; repin: 3 steps, word 5
+    ∷ plays flushed 11 done [] 1 2 [] one
+    ∷ plays again 7 done [] 3 4 [] one
+    ∷ plays (again ++ Event.calls 0 Call.Repin ∷ []) 3 done [] 5 4 [] one
+    -- flush: 11 steps, 7 freed in the 9th, node 0 now held; without that repin nothing is freed
+    ∷ plays (again ++ Event.calls 0 Call.Repin ∷ flush ∷ []) 11 done (record { inStep = 9; tokens = 7 ∷ [] } ∷ []) 5 6 (Item.Node (node 0) ∷ []) []
+    ∷ plays (again ++ flush ∷ []) 6 done [] 3 4 [] one
+    -- register, then release in 16 steps, an empty bag queued; a pin then gives 3
+    ∷ plays (Event.registers ∷ Event.calls 0 Call.Release ∷ []) 16 done [] 0 2 [] (record { seal = 2; len = 0 } ∷ [])
+    ∷ plays (Event.registers ∷ Event.calls 0 Call.Release ∷ pin ∷ []) 0 (Answer.Refused 3) [] 0 2 [] (record { seal = 2; len = 0 } ∷ [])
+    -- M 2: pin, defer 7, flush, defer 8, flush gives 11
+    ∷ plays (flushed ++ Event.calls 0 (Call.Defer 8) ∷ flush ∷ []) 0 (Answer.Refused 11) [] 1 2 (Item.Token 8 ∷ []) one
+    -- the schedule program's whole case: `more`, `more`, `more`, `done 0`, `refused 5`
+    ∷ record {
+      asks = Question.output (1 ∷ replicate 39 0);
+      gives = Reply.isBytes (109 ∷ 111 ∷ 114 ∷ 101 ∷ 10 ∷ 109 ∷ 111 ∷ 114 ∷ 101 ∷ 10 ∷ 109 ∷ 111 ∷ 114 ∷ 101 ∷ 10
+          ∷ 100 ∷ 111 ∷ 110 ∷ 101 ∷ 32 ∷ 48 ∷ 10 ∷ 114 ∷ 101 ∷ 102 ∷ 117 ∷ 115 ∷ 101 ∷ 100 ∷ 32 ∷ 53 ∷ 10 ∷ []);
+    }
+    ∷ []
