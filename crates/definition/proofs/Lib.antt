@@ -1,1 +1,4 @@
+pub mod Base
+pub mod Codec
+pub mod Needs
 pub mod Worked

@@ -27,20 +27,20 @@ unfolding Epoch.starting Epoch.isPinned Epoch.unpinned Epoch.pinned Epoch.succes
     Links.isNull Links.index Links.isTagged Links.tagged Links.pointee Links.pointer Links.nodeAt Bags.maxObjects Bags.isExpired
     Bags.itemWord Bags.itemOf Bags.items Bags.moved Bags.tokens Bags.freeSlots Bags.freeNodes Tables.read Tables.write Flow.on Flow.done
     Flow.also Flow.finalize Flow.collected Flow.collectSteps Flow.pops Flow.advanced Flow.walk Flow.waiting Flow.placed Flow.defer
-    Flow.pushed Rule.exchanged Rule.perform Rule.kindNumber Rule.wordNumber Rule.wordIndex List.insert List.delete List.predWord
-    List.iterate Queue.sealBag Queue.push Queue.pop Internal.pinningsBetweenCollect Internal.collects Internal.pinCounted
-    Internal.pinEpoch Internal.pinWord Internal.unpinWord Internal.repin Internal.advanceEpoch Internal.advanceWord Internal.advanceStore
-    Internal.finalWord Internal.rule Codec.ownerNumber Codec.predPointer Codec.carrying Codec.pushing Codec.recorded Codec.recordOf
-    Codec.ownerOf Codec.predOf Codec.thenOf Codec.placeOf Codec.participantOf Codec.samePlace Step.putItem Step.sealInto Step.inBag
-    Step.freeBag Step.settle Step.freedBy Step.answerOf Step.follow Step.ruleAt Step.takeStep Step.accessAt Calls.maxCount Calls.maxToken
-    Calls.lacks Calls.countFull Calls.tokenAbove Calls.finalizes Calls.overflow Calls.pinNeeds Calls.needs Calls.begins Calls.opens
-    Ranges.maxParticipants Ranges.maxNodes Ranges.withinLimits Ranges.bitWords Ranges.isRest Ranges.slotIn Ranges.nodeIn Ranges.ptrIn
-    Ranges.predIn Ranges.cursorIn Ranges.popsIn Ranges.thenIn Ranges.registerIn Ranges.walkIn Ranges.popIn Ranges.pushIn Ranges.placeIn
-    Ranges.entryPointerIn Ranges.headPointerIn Ranges.nodePointerIn Ranges.endPointerIn Ranges.itemIn Ranges.bagIn Ranges.recordIn
-    Ranges.bitsIn Ranges.sharedIn Ranges.inRange Ranges.fresh Public.refusal Public.unless Public.takesNode Public.running
-    Public.newParticipant Public.enrolled Public.damaged Public.absent Public.room Public.missing Public.callChecks Public.call
-    Public.registerChecks Public.register Public.stepChecks Public.step Public.given Public.lending Public.startLent Public.registerLent
-    Public.callLent Public.stepLent Runs.does Runs.run Schedule.tokenIn Schedule.actionOf Schedule.whole Schedule.played Schedule.digits
-    Schedule.decimal Schedule.answerText Schedule.freedText Schedule.line Schedule.lines Schedule.schedule Worked.noted Worked.begun
-    Worked.stepped Worked.operated Worked.along Worked.shown Worked.reply Worked.table
+    Flow.pushed Rule.asks Rule.follows Rule.agrees Rule.sees Rule.leaves Rule.exchanged Rule.made Rule.kindNumber Rule.wordNumber
+    Rule.wordIndex List.insert List.delete List.predWord List.iterate Queue.sealBag Queue.push Queue.pop Internal.pinningsBetweenCollect
+    Internal.collects Internal.pinCounted Internal.pinEpoch Internal.pinWord Internal.unpinWord Internal.repin Internal.advanceEpoch
+    Internal.advanceWord Internal.advanceStore Internal.finalWord Internal.rule Codec.ownerNumber Codec.predPointer Codec.thenCode
+    Codec.codeOf Codec.recordOf Codec.ownerOf Codec.predOf Codec.thenOf Codec.placeOf Codec.participantOf Codec.sameCode Step.putItem
+    Step.sealInto Step.inBag Step.freeBag Step.settle Step.freedBy Step.answerOf Step.follow Step.ruleAt Step.takeStep Step.accessAt
+    Calls.maxCount Calls.maxToken Calls.lacks Calls.countFull Calls.tokenAbove Calls.finalizes Calls.overflow Calls.pinNeeds Calls.needs
+    Calls.begins Calls.opens Ranges.maxParticipants Ranges.maxNodes Ranges.withinLimits Ranges.bitWords Ranges.isRest Ranges.slotIn
+    Ranges.nodeIn Ranges.ptrIn Ranges.predIn Ranges.cursorIn Ranges.popsIn Ranges.thenIn Ranges.registerIn Ranges.walkIn Ranges.popIn
+    Ranges.pushIn Ranges.placeIn Ranges.entryPointerIn Ranges.headPointerIn Ranges.nodePointerIn Ranges.endPointerIn Ranges.itemIn
+    Ranges.bagIn Ranges.codeIn Ranges.recordIn Ranges.bitsIn Ranges.sharedIn Ranges.inRange Ranges.fresh Public.refusal Public.unless
+    Public.takesNode Public.running Public.newParticipant Public.enrolled Public.damaged Public.absent Public.room Public.missing
+    Public.callChecks Public.call Public.registerChecks Public.register Public.stepChecks Public.step Public.given Public.lending
+    Public.startLent Public.registerLent Public.callLent Public.stepLent Runs.does Runs.run Schedule.tokenIn Schedule.actionOf
+    Schedule.whole Schedule.played Schedule.digits Schedule.decimal Schedule.answerText Schedule.freedText Schedule.line Schedule.lines
+    Schedule.schedule Worked.noted Worked.begun Worked.stepped Worked.operated Worked.along Worked.shown Worked.reply Worked.table
 worked = refl

@@ -86,7 +86,7 @@ module _ (N M : ℕ) where
 
   -- 3: an index not below N, a free slot, or one that is deleted and at rest. (A slot is deleted when its own next is tagged)
   unfoldable pub absent : ℕ → Tables → Bool
-  absent p t = leb N p || t .slotFree p || isTagged (t .shared .entryNext p) && not (running p t)
+  absent p t = leb N p || t .slotFree p || (isTagged (t .shared .entryNext p) && not (running p t))
 
   -- the nodes that are free and not set aside
   unfoldable pub room : Tables → ℕ

@@ -9,9 +9,9 @@ use Rattle.definition.specs.Links.{null, link, isTagged}
 use Rattle.definition.specs.Bags.{maxObjects, SealedBag}
 use Rattle.definition.specs.Tables.{Shared, Tables}
 use Rattle.definition.specs.Flow.{collectSteps}
-use Rattle.definition.specs.Codec.{recordOf, participantOf, placeOf, samePlace}
+use Rattle.definition.specs.Codec.{codeOf, placeOf, sameCode}
 use Rattle.definition.specs.Calls.{maxCount, maxToken}
-use Rattle.definition.specs.Types.{Slot, Node, Ptr, Pred, Cursor, Pops, Deferring, Then, RegisterAt, RepinAt, WalkAt, PopAt, PushAt, Place, Record}
+use Rattle.definition.specs.Types.{Slot, Node, Ptr, Pred, Cursor, Pops, Deferring, Then, RegisterAt, RepinAt, WalkAt, PopAt, PushAt, Place, Code, Record}
 
 -- the limits: participants 1 to 32, nodes 2 to 128
 unfoldable pub maxParticipants : ℕ
@@ -139,11 +139,14 @@ module _ (N M : ℕ) where
   unfoldable pub bagIn : ℕ → Tab ℕ → Bool
   bagIn k d = leb k maxObjects && all k (λ j. itemIn (d j))
 
-  -- a participant's record, beside a set-aside total: the place is one of thirty and carries what it may, and nothing else; a share is
-  -- a running operation's
+  -- a place: one of thirty, with what it carries, and nothing in the other columns
+  unfoldable pub codeIn : Code → Bool
+  codeIn c = sameCode (codeOf (placeOf c)) c && placeIn (placeOf c)
+
+  -- a participant's record, beside a set-aside total: a share is a running operation's
   unfoldable pub recordIn : ℕ → Record → Bool
-  recordIn aside r = leb (r .guards) maxCount && leb (r .handles) maxCount && leb (r .share) aside
-      && samePlace (recordOf (participantOf r)) r && placeIn (placeOf r) && branch (isRest (placeOf r)) (eqb (r .share) 0) true
+  recordIn aside r = leb (r .counts .guards) maxCount && leb (r .counts .handles) maxCount && leb (r .share) aside && codeIn (r .code)
+      && branch (isRest (placeOf (r .code))) (eqb (r .share) 0) true
 
   -- free bits: none is set at n or beyond
   unfoldable pub bitsIn : ℕ → Tab Bool → Bool
@@ -171,27 +174,7 @@ fresh N M = record {
     queueTail = link 0;
     nodeNext = λ n. null;
   };
-  own = λ i. record {
-    guards = 0;
-    handles = 0;
-    pins = 0;
-    held = 0;
-    share = 0;
-    place = 0;
-    then = 0;
-    owner = 0;
-    epoch = 0;
-    left = 0;
-    pred = 0;
-    curr = 0;
-    succ = 0;
-    old = 0;
-    popped = 0;
-    new = 0;
-    onto = 0;
-    next = 0;
-    token = 0;
-  };
+  own = λ i. record { counts = record { guards = 0; handles = 0; pins = 0 }; held = 0; share = 0; code = codeOf Place.Rest };
   held = λ i. λ k. 0;
   bag = λ n. record { epoch = 0; len = 0; deferreds = λ k. 0 };
   slotFree = λ i. ltb i N;

@@ -1,12 +1,12 @@
 -- A rule: the one access that a place makes, and what follows for every value that it can see. Which kind of access it is is the rule's
--- form, so that a rule reads as the line of the Rust that it renders. Assumes nothing.
-use mathlib.Core.Bool.{Bool, true, false}
+-- form, so that a rule reads as the line of the Rust that it renders. What an access sees, and what it leaves behind. Assumes nothing.
+use mathlib.Core.Bool.{Bool, true}
 use Prim.Native.Nat.{ℕ}
 use lib.Dec.{eqb}
 use Rattle.definition.specs.Base.{branch}
 use Rattle.definition.specs.Links.{tagged}
 use Rattle.definition.specs.Tables.{Shared, read, write}
-use Rattle.definition.specs.Types.{Word, Kind, Access, After}
+use Rattle.definition.specs.Types.{Word, Ask, Seen, Kind, Access, After}
 
 -- `load`, with the value; `store` of a value; `compare_exchange` of an expected value for a new one, won, or lost to the value found;
 -- `compare_exchange_weak`, which document 01 takes to fail only on a different value; `fetch_or` of the tag
@@ -17,31 +17,53 @@ pub data Rule : Type 0 where
   exchangeWeak : Word → (expected new : ℕ) → After → (ℕ → After) → Rule
   fetchOr : Word → After → Rule
 
--- a rule carried out: the shared words, what follows, and the access as it was made
-pub record Performed : Type 0 where
-  pub shared : Shared
-  pub after : After
-  pub access : Access
+-- the access by itself, and what follows when it is seen
+unfoldable pub asks : Rule → Ask
+asks (Rule.load w f) = Ask.Load w
+asks (Rule.store w v a) = Ask.Store w v
+asks (Rule.exchange w e v won lost) = Ask.Exchange w e v
+asks (Rule.exchangeWeak w e v won lost) = Ask.ExchangeWeak w e v
+asks (Rule.fetchOr w a) = Ask.FetchOr w
 
-abbrev pub made : Kind → Word → ℕ → ℕ → Access
-made k w r v = record { kind = k; word = w; read = r; stored = v }
+unfoldable pub follows : Rule → Seen → After
+follows (Rule.load w f) s = f (s .value)
+follows (Rule.store w v a) s = a
+follows (Rule.exchange w e v won lost) s = branch (s .won) won (lost (s .value))
+follows (Rule.exchangeWeak w e v won lost) s = branch (s .won) won (lost (s .value))
+follows (Rule.fetchOr w a) s = a
 
-abbrev pub stored : Kind → Word → ℕ → ℕ → After → Shared → Performed
-stored k w r v a s = record { shared = write w v s; after = a; access = made k w r v }
+-- an exchange is done where the word has the expected value
+unfoldable pub agrees : Word → ℕ → Shared → Bool
+agrees w e s = eqb (read w s) e
 
-abbrev pub seen : Kind → Word → (ℕ → After) → Shared → Performed
-seen k w f s = record { shared = s; after = f (read w s); access = made k w (read w s) 0 }
+-- what an access sees
+unfoldable pub sees : Ask → Shared → Seen
+sees (Ask.Load w) s = record { value = read w s; won = true }
+sees (Ask.Store w v) s = record { value = 0; won = true }
+sees (Ask.Exchange w e v) s = record { value = read w s; won = agrees w e s }
+sees (Ask.ExchangeWeak w e v) s = record { value = read w s; won = agrees w e s }
+sees (Ask.FetchOr w) s = record { value = read w s; won = true }
 
--- an exchange: the new value where the word has the expected one
-unfoldable pub exchanged : Word → ℕ → ℕ → After → (ℕ → After) → Shared → Performed
-exchanged w e v won lost s = branch (eqb (read w s) e) (stored Kind.ExchangeDone w (read w s) v won s) (seen Kind.ExchangeFailed w lost s)
+-- the shared words that it leaves behind
+unfoldable pub leaves : Ask → Shared → Shared
+leaves (Ask.Load w) s = s
+leaves (Ask.Store w v) s = write w v s
+leaves (Ask.Exchange w e v) s = branch (agrees w e s) (write w v s) s
+leaves (Ask.ExchangeWeak w e v) s = branch (agrees w e s) (write w v s) s
+leaves (Ask.FetchOr w) s = write w (tagged (read w s)) s
 
-unfoldable pub perform : Rule → Shared → Performed
-perform (Rule.load w f) s = seen Kind.Load w f s
-perform (Rule.store w v a) s = stored Kind.Store w 0 v a s
-perform (Rule.exchange w e v won lost) s = exchanged w e v won lost s
-perform (Rule.exchangeWeak w e v won lost) s = exchanged w e v won lost s
-perform (Rule.fetchOr w a) s = stored Kind.FetchOr w (read w s) (tagged (read w s)) a s
+-- the access as it was made: what was read and what was stored, 0 where nothing was
+unfoldable pub exchanged : Word → ℕ → ℕ → Shared → Access
+exchanged w e v s = branch (agrees w e s)
+    (record { kind = Kind.ExchangeDone; word = w; read = read w s; stored = v })
+    (record { kind = Kind.ExchangeFailed; word = w; read = read w s; stored = 0 })
+
+unfoldable pub made : Ask → Shared → Access
+made (Ask.Load w) s = record { kind = Kind.Load; word = w; read = read w s; stored = 0 }
+made (Ask.Store w v) s = record { kind = Kind.Store; word = w; read = 0; stored = v }
+made (Ask.Exchange w e v) s = exchanged w e v s
+made (Ask.ExchangeWeak w e v) s = exchanged w e v s
+made (Ask.FetchOr w) s = record { kind = Kind.FetchOr; word = w; read = read w s; stored = tagged (read w s) }
 
 -- document 02, No. 1: an access and a shared word by number, and the index of the word
 unfoldable pub kindNumber : Kind → ℕ

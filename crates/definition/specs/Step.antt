@@ -9,7 +9,7 @@ use Rattle.definition.specs.Links.{null}
 use Rattle.definition.specs.Bags.{SealedBag, itemWord, items, moved, tokens, freeSlots, freeNodes}
 use Rattle.definition.specs.Tables.{Tables, write, withShared, withOwn, withHeld, withBag, withFree, withAside}
 use Rattle.definition.specs.Codec.{recordOf, participantOf}
-use Rattle.definition.specs.Rule.{Rule, Performed, perform}
+use Rattle.definition.specs.Rule.{Rule, asks, follows, sees, leaves, made}
 use Rattle.definition.specs.Internal.{rule}
 use Rattle.definition.specs.Types.{Slot, Node, Item, Participant, Word, Access, Work, End, After, Answer, slot, node}
 
@@ -72,12 +72,12 @@ ruleAt M p t =
     let o = participantOf (t .own p) in
     rule (slot p) (node (least M (t .nodeFree))) (λ n. t .bag (n .0) .epoch) o (o .place)
 
--- the step of p
+-- the step of p: its access, then what follows
 unfoldable pub takeStep : ℕ → ℕ → Tables → Out
 takeStep M p t =
-    let d = perform (ruleAt M p t) (t .shared) in
-    follow p (d .after) (withShared (d .shared) t)
+    let r = ruleAt M p t in
+    follow p (follows r (sees (asks r) (t .shared))) (withShared (leaves (asks r) (t .shared)) t)
 
 -- the access that it makes
 unfoldable pub accessAt : ℕ → ℕ → Tables → Access
-accessAt M p t = perform (ruleAt M p t) (t .shared) .access
+accessAt M p t = made (asks (ruleAt M p t)) (t .shared)

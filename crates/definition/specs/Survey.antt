@@ -35,14 +35,14 @@ isRegister Place.FinalTag = false
 
 -- 0 free, 1 registering, 2 registered, 3 deleted
 unfoldable pub stateOf : Tables → ℕ → ℕ
-stateOf t p = branch (t .slotFree p) 0 (branch (isTagged (t .shared .entryNext p)) 3 (branch (isRegister (placeOf (t .own p))) 1 2))
+stateOf t p = branch (t .slotFree p) 0 (branch (isTagged (t .shared .entryNext p)) 3 (branch (isRegister (placeOf (t .own p .code))) 1 2))
 
 -- for states 0 and 3 all but the state are zero
 unfoldable pub reportOf : Tables → ℕ → Report
 reportOf t p = branch (eqb (stateOf t p) 0) (empty 0) (branch (eqb (stateOf t p) 3) (empty 3) (record {
   state = stateOf t p;
-  guards = t .own p .guards;
-  handles = t .own p .handles;
+  guards = t .own p .counts .guards;
+  handles = t .own p .counts .handles;
   held = t .own p .held;
   distance = wrappingSub (t .shared .globalEpoch) (t .shared .word p);
 }))

@@ -21,8 +21,11 @@ pub use Rattle.definition.specs.declared.PushAt.{PushAt}
 pub use Rattle.definition.specs.declared.Place.{Place}
 pub use Rattle.definition.specs.declared.Counts.{Counts}
 pub use Rattle.definition.specs.declared.Participant.{Participant}
+pub use Rattle.definition.specs.declared.Code.{Code}
 pub use Rattle.definition.specs.declared.Record.{Record}
 pub use Rattle.definition.specs.declared.Word.{Word}
+pub use Rattle.definition.specs.declared.Ask.{Ask}
+pub use Rattle.definition.specs.declared.Seen.{Seen}
 pub use Rattle.definition.specs.declared.Kind.{Kind}
 pub use Rattle.definition.specs.declared.Access.{Access}
 pub use Rattle.definition.specs.declared.Work.{Work}

@@ -142,14 +142,9 @@ pub struct Participant {
     pub place: Place,
 }
 
-// A participant as it stands in its table, beside its two shared words: its counts, its place by number, and what the place carries.
-pub struct Record {
-    pub guards: u64,
-    pub handles: u64,
-    pub pins: u64,
-    pub held: u64,
-    pub share: u64,
-    pub place: u64,
+// A place as it stands in a table: its number, and what it carries, one meaning to a column; zero where it carries nothing.
+pub struct Code {
+    pub number: u64,
     pub then: u64,
     pub owner: u64,
     pub epoch: u64,
@@ -165,6 +160,14 @@ pub struct Record {
     pub token: u64,
 }
 
+// A participant as it stands in its table, beside its two shared words.
+pub struct Record {
+    pub counts: Counts,
+    pub held: u64,
+    pub share: u64,
+    pub code: Code,
+}
+
 // The shared words: all that an access can touch.
 pub enum Word {
     GlobalEpoch,
@@ -174,6 +177,22 @@ pub enum Word {
     QueueHead,
     QueueTail,
     NodeNext(Node),
+}
+
+// What a place asks of shared memory: a load; a store of a value; an exchange of an expected value for a new one; the same by
+// `compare_exchange_weak`; a `fetch_or` of the tag.
+pub enum Ask {
+    Load(Word),
+    Store(Word, u64),
+    Exchange(Word, u64, u64),
+    ExchangeWeak(Word, u64, u64),
+    FetchOr(Word),
+}
+
+// What comes back: the value read (0 for a store), and whether an exchange was done (true for the rest).
+pub struct Seen {
+    pub value: u64,
+    pub won: bool,
 }
 
 // The kinds of access, as a step made it.
