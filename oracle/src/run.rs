@@ -1,0 +1,58 @@
+//! A run that is being made: records are played as they are chosen, and kept.
+
+use crate::arena::ARENA;
+use crate::judge::{Answer, Judge, Outcome};
+use crate::record::{Record, REGISTER, STEP};
+use crate::tally::Tally;
+
+pub(crate) struct Run {
+    pub(crate) judge: Judge,
+    pub(crate) log: Vec<Record>,
+    pub(crate) tally: Tally,
+}
+
+impl Run {
+    pub(crate) fn start(n: usize, m: usize) -> Run {
+        Run { judge: Judge::start(n, m, false), log: Vec::new(), tally: Tally::default() }
+    }
+
+    pub(crate) fn play(&mut self, record: Record) -> Outcome {
+        self.log.push(record);
+        let outcome = self.judge.play(record);
+        self.tally.note(outcome.seen.as_ref(), outcome.freed.len());
+        outcome
+    }
+
+    pub(crate) fn call(&mut self, action: u8, slot: usize, token: u32) -> Outcome {
+        self.play(Record::new(action, slot, token))
+    }
+
+    pub(crate) fn step(&mut self, slot: usize) -> Outcome {
+        self.call(STEP, slot, 0)
+    }
+
+    /// Steps a participant until its operation is done.
+    pub(crate) fn finish(&mut self, slot: usize) -> Vec<Outcome> {
+        let mut steps = Vec::new();
+        while self.judge.running(slot) {
+            steps.push(self.step(slot));
+        }
+        steps
+    }
+
+    /// A whole operation; gives its steps. A refused call has none.
+    pub(crate) fn operation(&mut self, action: u8, slot: usize, token: u32) -> Vec<Outcome> {
+        match self.call(action, slot, token).answer {
+            Answer::More => self.finish(slot),
+            Answer::Done(_) | Answer::Refused(_) => Vec::new(),
+        }
+    }
+
+    /// Registers and gives the slot.
+    pub(crate) fn register(&mut self) -> usize {
+        let slot = ARENA.smallest_free_slot();
+        self.call(REGISTER, 0, 0);
+        self.finish(slot);
+        slot
+    }
+}
