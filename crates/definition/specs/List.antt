@@ -34,8 +34,8 @@ iterate t o WalkAt.Head = Rule.load Word.ListHead (λ w. walk t Pred.Head (point
 -- `let succ = c.next.load(..)`: tagged: it was removed, try to unlink it; else the entry is returned to `try_advance`
 iterate t o (WalkAt.Next c) = Rule.load (Word.EntryNext (c .curr)) (λ w.
     branch (isTagged w) (on (Place.Walk t (WalkAt.Unlink c (pointee w))) o) (on (Place.AdvanceWord t (c .curr) (pointee w)) o))
--- `self.pred.compare_exchange(self.curr, succ, ..)`: Ok: `C::finalize` retires the entry's slot (guard.rs, `defer_destroy`), then on with `succ`; Err: a tagged
--- value: the predecessor is deleted, stalled; else on with the value found
+-- `self.pred.compare_exchange(self.curr, succ, ..)`: Ok: `C::finalize` retires the entry's slot (guard.rs, `defer_destroy`), then on with
+-- `succ`; Err: a tagged value: the predecessor is deleted, stalled; else on with the value found
 iterate t o (WalkAt.Unlink c succ) = Rule.exchange (predWord (c .pred)) (link (c .curr .0)) (pointer succ)
     (defer (Deferring.Slot t c succ) o)
     (λ w. branch (isTagged w) (on (Place.Walk t WalkAt.Stalled) o) (walk t (c .pred) (pointee w) o))
