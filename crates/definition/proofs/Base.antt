@@ -1,7 +1,7 @@
 -- Laws of what the definition is written with: choice, tables, sums over a table. Each is stated once, over any table, and cited.
 -- Assumes nothing.
 use mathlib.Core.Path.{_≡_, refl, ap, sym, _∙_}
-use mathlib.Core.Bool.{Bool, true, false}
+use mathlib.Core.Bool.{Bool, true, false, _&&_, false≢true}
 use mathlib.Core.Logic.{_≢_}
 use Prim.Native.Nat.{ℕ, zero, suc, _+_, _≤_, _<_}
 use native.Mathlib.Omega.{arith}
@@ -74,3 +74,8 @@ sum-put (suc n) w t i v h =
     same? i n
     (λ s. rw (sum-out n w t i v (omega arith), ← s, put-same t i v) (omega arith))
     (λ ne. rw (put-other t i n v ne) (let ih = sum-put n w t i v (omega arith) in omega arith))
+
+-- both tests are true
+pub both : (a b : Bool) → (a && b) ≡ true → (a ≡ true) × (b ≡ true)
+both true b h = (refl, h)
+both false b h = absurd (false≢true h)

@@ -1,4 +1,5 @@
 pub mod Base
 pub mod Codec
+pub mod Lists
 pub mod Needs
 pub mod Worked
