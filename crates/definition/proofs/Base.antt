@@ -5,9 +5,9 @@ use mathlib.Core.Bool.{Bool, true, false, _&&_, false≢true}
 use mathlib.Core.Logic.{_≢_}
 use Prim.Native.Nat.{ℕ, zero, suc, _+_, _≤_, _<_}
 use native.Mathlib.Omega.{arith}
-use lib.Dec.{eqb}
-use borrow.Author.Tests.{eqb-true, eqb-false, eq-eqb, ne-eqb}
-use Rattle.definition.specs.Base.{branch, Tab, put, sum}
+use lib.Dec.{eqb, ltb}
+use borrow.Author.Tests.{eqb-true, eqb-false, eq-eqb, ne-eqb, ltb-true, ltb-false}
+use Rattle.definition.specs.Base.{branch, Tab, put, sum, count, all, least}
 
 -- a proof about a choice is a proof about each side, with the test's answer in hand
 pub branch-ind {ℓ ℓ′} : {A : Type ℓ} (P : A → Type ℓ′) (b : Bool) {x y : A} → (b ≡ true → P x) → (b ≡ false → P y) → P (branch b x y)
@@ -79,3 +79,63 @@ sum-put (suc n) w t i v h =
 pub both : (a b : Bool) → (a && b) ≡ true → (a ≡ true) × (b ≡ true)
 both true b h = (refl, h)
 both false b h = absurd (false≢true h)
+
+pub and-intro : (a b : Bool) → a ≡ true → b ≡ true → (a && b) ≡ true
+and-intro a b h k = rw (h, k)
+
+-- a test over the first n indices, at one of them, and from all of them
+pub all-at : (n : ℕ) (f : Tab Bool) (i : ℕ) → all n f ≡ true → i < n → f i ≡ true
+unfolding all
+all-at zero f i h lt = absurd (omega arith)
+all-at (suc n) f i h lt =
+    let x = both (all n f) (f n) h in
+    same? i n (λ e. rw e (x .1)) (λ ne. all-at n f i (x .0) (omega arith))
+
+pub all-intro : (n : ℕ) (f : Tab Bool) → ((i : ℕ) → i < n → f i ≡ true) → all n f ≡ true
+unfolding all
+all-intro zero f h = refl
+all-intro (suc n) f h = and-intro (all n f) (f n) (all-intro n f (λ i lt. h i (omega arith))) (h n (omega arith))
+
+-- the smallest marked index: where one is marked it is below n and marked, and none below it is
+pub least-le : (n : ℕ) (f : Tab Bool) → least n f ≤ n
+unfolding least
+least-le zero f = omega arith
+least-le (suc n) f =
+    branch-ind (λ (k : ℕ). k ≤ suc n) (ltb (least n f) n) (λ e. omega (arith, ltb-true (least n f) n e))
+    (λ _. branch-ind (λ (k : ℕ). k ≤ suc n) (f n) (λ _. omega arith) (λ _. omega arith))
+
+pub least-marked : (n : ℕ) (f : Tab Bool) → least n f < n → f (least n f) ≡ true
+unfolding least branch
+least-marked zero f h = absurd (omega arith)
+least-marked (suc n) f h = go (ltb (least n f) n) refl (f n) refl h (least-marked n f)
+  where
+    go : (b : Bool) → ltb (least n f) n ≡ b → (c : Bool) → f n ≡ c → branch b (least n f) (branch c n (suc n)) < suc n
+        → (least n f < n → f (least n f) ≡ true) → f (branch b (least n f) (branch c n (suc n))) ≡ true
+    go true e c m lt below = below (ltb-true (least n f) n e)
+    go false e true m lt below = m
+    go false e false m lt below = absurd (omega arith)
+
+pub least-first : (n : ℕ) (f : Tab Bool) (i : ℕ) → i < least n f → f i ≡ false
+unfolding least branch
+least-first zero f i h = absurd (omega arith)
+least-first (suc n) f i h = go (ltb (least n f) n) refl (f n) refl h (least-first n f i)
+  where
+    go : (b : Bool) → ltb (least n f) n ≡ b → (c : Bool) → f n ≡ c → i < branch b (least n f) (branch c n (suc n))
+        → (i < least n f → f i ≡ false) → f i ≡ false
+    go true e c m lt below = below lt
+    go false e true m lt below = below (omega (arith, ltb-false (least n f) n e))
+    go false e false m lt below =
+        same? i n (λ s. rw s m) (λ ne. below (omega (arith, ltb-false (least n f) n e)))
+
+-- nothing is marked exactly where nothing counts
+pub count-none : (n : ℕ) (f : Tab Bool) → ((i : ℕ) → i < n → f i ≡ false) → count n f ≡ 0
+unfolding count sum branch
+count-none zero f h = refl
+count-none (suc n) f h = rw (h n (omega arith)) (omega (arith, count-none n f (λ i lt. h i (omega arith))))
+
+pub count-least : (n : ℕ) (f : Tab Bool) → (count n f ≡ 0 → ⊥) → least n f < n
+count-least n f h = go (ltb (least n f) n) refl
+  where
+    go : (b : Bool) → ltb (least n f) n ≡ b → least n f < n
+    go true e = ltb-true (least n f) n e
+    go false e = absurd (h (count-none n f (λ i lt. least-first n f i (omega (arith, ltb-false (least n f) n e)))))

@@ -2,4 +2,5 @@ pub mod Base
 pub mod Codec
 pub mod Lists
 pub mod Needs
+pub mod Within
 pub mod Worked
