@@ -3,4 +3,5 @@ pub mod Codec
 pub mod Lists
 pub mod Needs
 pub mod Within
+pub mod Kept
 pub mod Worked
