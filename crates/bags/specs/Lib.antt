@@ -1,0 +1,2 @@
+-- What the promises of `bags` cite.
+pub mod Bags

@@ -1,0 +1,232 @@
+// Bags, the port of crossbeam-epoch's `Bag` and `SealedBag` (src/internal.rs).
+//
+// A bag holds what waits to be freed. A participant's own bag stands in its row of the list `held`; sealed with an epoch it is moved into
+// a node, whose row of `nodes` has the node's next, the seal and the length, and whose row of `queued` has the items. In the Rust an item
+// is a closure that is called when the bag is dropped; here it is a word that says what to free: a token, which goes to the caller, or a
+// node or a slot, whose index is free again.
+use definition::Item;
+use definition::Node;
+use definition::Slot;
+use epoch::Epoch;
+ghost use mathlib.Core.Path.{_≡_};
+ghost use mathlib.Core.Bool.{true};
+ghost use mathlib.Core.List.{[], _∷_};
+ghost use Prim.Native.Nat.{_+_, _*_, _^_, _≤_, _<_};
+ghost use lib.ListN.{length, set, drop};
+ghost use lib.Seq.{paste, sets};
+ghost use Rattle.definition.specs.Bags.{isExpired, itemWord, itemOf, items, tokens};
+ghost use Rattle.bits.specs.Bits.{wordsAt};
+ghost use Rattle.bags.specs.Bags.{stamped, bagSeal, bagLen, bagItems, filled, freeItem, freeItems, hasBit, haveBits};
+
+// The head of a bag of deferred items; the items themselves stand in a lent list.
+pub struct Bag {
+    pub len: u64,
+}
+
+impl Bag {
+    // Maximum number of items a bag can contain.
+    pub const MAX_OBJECTS: u64 = 64;
+
+    // The same as a width: each bag has a row of this many words.
+    const ROW: usize = Bag::MAX_OBJECTS as usize;
+}
+
+// A pair of an epoch and a bag.
+pub struct SealedBag {
+    pub epoch: Epoch,
+    pub bag: Bag,
+}
+
+impl SealedBag {
+    // Words of a node's row: its next, the seal, the length of its bag.
+    const ROW: usize = 3;
+
+    // Returns the sealed bag of a node.
+    pub fn at(nodes: &[u64], node: usize) -> Self
+        requires { ⌜ node * 3 + 3 ≤ length (now nodes) ⌝ }
+        ensures { λ r. ⌜ (r .epoch .0 ≡ bagSeal (now (nodes .entry)) node) × (r .bag .len ≡ bagLen (now (nodes .entry)) node) ⌝ }
+    {
+        let w = nodes[node * SealedBag::ROW + 1];
+        let k = nodes[node * SealedBag::ROW + 2];
+        SealedBag {
+            epoch: Epoch(w),
+            bag: Bag { len: k },
+        }
+    }
+
+    // Checks if it is safe to drop the bag w.r.t. the given global epoch.
+    pub fn is_expired(self, global_epoch: Epoch) -> bool
+        ensures { λ r. ⌜ r ≡ isExpired (self .epoch .0) («global_epoch» .0) ⌝ }
+    {
+        // A pinned participant can witness at most one epoch advancement. Therefore, any bag that is within one epoch of the current one
+        // cannot be destroyed yet.
+        let sealed = self.epoch;
+        global_epoch.wrapping_sub(sealed) >= 2
+    }
+}
+
+// Returns the word that stands for an item; it must be one.
+pub fn item_word(item: Item) -> u64
+    requires { ⌜ itemWord item < 2 ^ 64 ⌝ }
+    ensures { λ r. ⌜ r ≡ itemWord item ⌝ }
+{
+    match item {
+        Item::Token(token) => 4 * token + 1,
+        Item::Node(node) => 4 * node.0 + 2,
+        Item::Slot(slot) => 4 * slot.0 + 3,
+    }
+}
+
+// Returns the item that a word stands for.
+pub fn item_of(w: u64) -> Item
+    ensures { λ r. ⌜ r ≡ itemOf w ⌝ }
+{
+    let v = w / 4;
+    match w % 4 {
+        1 => Item::Token(v),
+        2 => Item::Node(Node(v)),
+        _ => Item::Slot(Slot(v)),
+    }
+}
+
+// Puts an item at place `k` of participant `p`'s bag.
+pub fn put_item(held: &mut [u64], p: usize, k: usize, item: Item)
+    requires { ⌜ (p * 64 + k < length (now held)) × (itemWord item < 2 ^ 64) ⌝ }
+    ensures { λ r. ⌜ now (held .exit) ≡ set (now (held .entry)) (p * 64 + k) (itemWord item) ⌝ }
+{
+    let place = p * Bag::ROW + k;
+    let w = item_word(item);
+    held[place] = w;
+}
+
+// Moves participant `p`'s bag of `k` items into a node and seals it with `e`. The node's next is null.
+pub fn seal_bag(
+    held: &[u64],
+    p: usize,
+    k: usize,
+    nodes: &mut [u64],
+    queued: &mut [u64],
+    node: usize,
+    e: Epoch,
+)
+    requires { ⌜ (p * 64 + k ≤ length (now held)) × ((node * 3 + 3 ≤ length (now nodes)) × (node * 64 + k ≤ length (now queued))) ⌝ }
+    ensures { λ r. ⌜
+        (now (nodes .exit) ≡ stamped (now (nodes .entry)) node (e .0) k)
+        × (now (queued .exit) ≡ paste (now (queued .entry)) (node * 64) (drop (p * 64) (now (held .entry))) k)
+        ⌝ }
+{
+    move_items(held, p * Bag::ROW, queued, node * Bag::ROW, k);
+    stamp(nodes, node, e, k);
+}
+
+// Copies `n` words from place `from` of one list to place `to` of another.
+fn move_items(src: &[u64], from: usize, dst: &mut [u64], to: usize, n: usize)
+    requires { ⌜ (from + n ≤ length (now src)) × (to + n ≤ length (now dst)) ⌝ }
+    ensures { λ r. ⌜ now (dst .exit) ≡ paste (now (dst .entry)) to (drop from (now (src .entry))) n ⌝ }
+{
+    let mut k: usize = 0;
+    while k < n {
+        dst[to + k] = src[from + k];
+        k += 1;
+    }
+}
+
+// Writes a node's row: no next, the seal, the length.
+fn stamp(nodes: &mut [u64], node: usize, e: Epoch, k: usize)
+    requires { ⌜ node * 3 + 3 ≤ length (now nodes) ⌝ }
+    ensures { λ r. ⌜ now (nodes .exit) ≡ stamped (now (nodes .entry)) node (e .0) k ⌝ }
+{
+    let at = node * SealedBag::ROW;
+    nodes[at] = 0;
+    nodes[at + 1] = e.0;
+    nodes[at + 2] = k as u64;
+}
+
+// Frees every item of a node's bag, first to last, for `n` participants: a token goes to the next place of `freed`, from its front, and a
+// node or a slot is free again. The bag is then empty. Returns the number of tokens.
+pub fn free_bag(
+    globals: &mut [u64],
+    n: usize,
+    nodes: &mut [u64],
+    queued: &[u64],
+    node: usize,
+    freed: &mut [u64],
+) -> u64
+    requires { ⌜ (node * 3 + 3 ≤ length (now nodes)) × (node * 64 + bagLen (now nodes) node ≤ length (now queued)) ⌝ }
+    requires { ⌜ bagLen (now nodes) node ≤ length (now freed) ⌝ }
+    requires { ⌜ haveBits n (length (now globals)) (bagLen (now nodes) node) (wordsAt (now queued) (node * 64)) ≡ true ⌝ }
+    ensures { λ r. ⌜
+        (r ≡ length (tokens (bagItems (now (nodes .entry)) (now (queued .entry)) node)))
+        × ((now (globals .exit) ≡ freeItems n (bagItems (now (nodes .entry)) (now (queued .entry)) node) (now (globals .entry)))
+        × ((now (nodes .exit) ≡ set (now (nodes .entry)) (node * 3 + 2) 0)
+        × (now (freed .exit) ≡ filled (tokens (bagItems (now (nodes .entry)) (now (queued .entry)) node)) (now (freed .entry)))))
+        ⌝ }
+{
+    let len_at = node * SealedBag::ROW + 2;
+    let k = nodes[len_at] as usize;
+    let t = free_items(globals, n, queued, node * Bag::ROW, k, freed);
+    nodes[len_at] = 0;
+    t as u64
+}
+
+// Frees `k` items from place `at` of `queued` on.
+fn free_items(
+    globals: &mut [u64],
+    n: usize,
+    queued: &[u64],
+    at: usize,
+    k: usize,
+    freed: &mut [u64],
+) -> usize
+    requires { ⌜ (at + k ≤ length (now queued)) × (k ≤ length (now freed)) ⌝ }
+    requires { ⌜ haveBits n (length (now globals)) k (wordsAt (now queued) at) ≡ true ⌝ }
+    ensures { λ r. ⌜
+        (r ≡ length (tokens (items k (wordsAt (now (queued .entry)) at))))
+        × ((now (globals .exit) ≡ freeItems n (items k (wordsAt (now (queued .entry)) at)) (now (globals .entry)))
+        × (now (freed .exit) ≡ filled (tokens (items k (wordsAt (now (queued .entry)) at))) (now (freed .entry))))
+        ⌝ }
+{
+    let mut t: usize = 0;
+    let mut j: usize = 0;
+    while j < k {
+        let item = item_of(queued[at + j]);
+        free_index(globals, n, item);
+        t = free_token(freed, t, item);
+        j += 1;
+    }
+    t
+}
+
+// Gives back the index that an item is, if it is one.
+fn free_index(globals: &mut [u64], n: usize, item: Item)
+    requires { ⌜ hasBit n (length (now globals)) item ≡ true ⌝ }
+    ensures { λ r. ⌜ now (globals .exit) ≡ freeItem n item (now (globals .entry)) ⌝ }
+{
+    match item {
+        Item::Token(_) => {}
+        Item::Node(node) => {
+            bits::give(globals, bits::node_bits_at(n), node.0 as usize);
+        }
+        Item::Slot(slot) => {
+            bits::give(globals, bits::slot_bits_at(), slot.0 as usize);
+        }
+    }
+}
+
+// Puts the token that an item is, if it is one, at place `t`. Returns the next place.
+fn free_token(freed: &mut [u64], t: usize, item: Item) -> usize
+    requires { ⌜ t < length (now freed) ⌝ }
+    ensures { λ r. ⌜
+        (r ≡ t + length (tokens (item ∷ [])))
+        × (now (freed .exit) ≡ sets (now (freed .entry)) t (tokens (item ∷ [])))
+        ⌝ }
+{
+    match item {
+        Item::Token(token) => {
+            freed[t] = token;
+            t + 1
+        }
+        Item::Node(_) => t,
+        Item::Slot(_) => t,
+    }
+}

@@ -1,0 +1,2 @@
+-- What the promises of `bits` cite.
+pub mod Bits
