@@ -1,0 +1,2 @@
+-- What the promises of `flow` cite beside the definition.
+pub mod Words

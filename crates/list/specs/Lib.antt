@@ -1,0 +1,2 @@
+-- What the promises of `list` cite beside the definition.
+pub mod Fits

@@ -1,0 +1,2 @@
+-- What the promises of `queue` cite beside the definition.
+pub mod Fits

@@ -1,0 +1,2 @@
+-- What belongs to no one function: the laws of rows in range and of sizes, which crates above cite.
+pub mod Laws

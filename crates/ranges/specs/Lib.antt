@@ -1,0 +1,2 @@
+-- What the promises of `ranges` cite beside the definition.
+pub mod Rows

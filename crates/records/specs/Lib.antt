@@ -1,0 +1,2 @@
+-- What the promises of `records` cite beside the definition.
+pub mod Stores

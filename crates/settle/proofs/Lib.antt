@@ -1,0 +1,2 @@
+-- Laws of `settle`.
+pub mod Laws

@@ -1,0 +1,2 @@
+-- What the promises of `settle` cite.
+pub mod Settle

@@ -1,0 +1,2 @@
+-- What the promises of `start` cite beside the definition.
+pub mod Given

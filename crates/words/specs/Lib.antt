@@ -1,0 +1,2 @@
+-- What the promises of `words` cite beside the definition.
+pub mod Words

@@ -1,0 +1,156 @@
+// The shared words: the one place where they are read and written. A step makes one access, and makes it here, by `perform`.
+//
+// The Rust's atomics are words of three lent lists: the global epoch, the head of the list of participants and both ends of the queue
+// in `globals`; a participant's epoch and its entry's next in its row of `participants`; a node's next in its row of `nodes`.
+//
+// Each promise says what the access sees, as specs/Rule of `definition` has it, and all three lists afterwards, as specs/Words has
+// them. What is required is only that the word named lies in the lists.
+use definition::Ask;
+use definition::Seen;
+use definition::Word;
+ghost use mathlib.Core.Path.{_≡_};
+ghost use Rattle.definition.specs.Tables.{read};
+ghost use Rattle.definition.specs.Layout.{sharedFrom};
+ghost use Rattle.words.specs.Words.{named, wordIn, Written, Made};
+
+// Returns the value of a shared word.
+pub fn read_word(globals: &[u64], participants: &[u64], nodes: &[u64], w: Word) -> u64
+    requires { ⌜ wordIn w (now globals) (now participants) (now nodes) ⌝ }
+    ensures { λ r. ⌜ r ≡ read w (sharedFrom (now (globals .entry)) (now (participants .entry)) (now (nodes .entry))) ⌝ }
+{
+    match w {
+        Word::GlobalEpoch => globals[0],
+        Word::ListHead => globals[1],
+        Word::EntryNext(s) => participants[s.0 as usize * 21 + 1],
+        Word::ParticipantWord(s) => participants[s.0 as usize * 21],
+        Word::QueueHead => globals[2],
+        Word::QueueTail => globals[3],
+        Word::NodeNext(n) => nodes[n.0 as usize * 3],
+    }
+}
+
+// Stores `v` to a shared word.
+pub fn write_word(globals: &mut [u64], participants: &mut [u64], nodes: &mut [u64], w: Word, v: u64)
+    requires { ⌜ wordIn w (now globals) (now participants) (now nodes) ⌝ }
+    ensures { λ r. ⌜
+        Written w v (now (globals .entry)) (now (participants .entry)) (now (nodes .entry))
+        (now (globals .exit)) (now (participants .exit)) (now (nodes .exit))
+        ⌝ }
+{
+    match w {
+        Word::GlobalEpoch => {
+            globals[0] = v;
+        }
+        Word::ListHead => {
+            globals[1] = v;
+        }
+        Word::EntryNext(s) => {
+            participants[s.0 as usize * 21 + 1] = v;
+        }
+        Word::ParticipantWord(s) => {
+            participants[s.0 as usize * 21] = v;
+        }
+        Word::QueueHead => {
+            globals[2] = v;
+        }
+        Word::QueueTail => {
+            globals[3] = v;
+        }
+        Word::NodeNext(n) => {
+            nodes[n.0 as usize * 3] = v;
+        }
+    }
+}
+
+// Exchanges `expected` for `new`, which is done only where the word has the expected value. Returns the value found.
+fn compare_exchange(
+    globals: &mut [u64],
+    participants: &mut [u64],
+    nodes: &mut [u64],
+    w: Word,
+    expected: u64,
+    new: u64,
+) -> Seen
+    requires { ⌜ wordIn w (now globals) (now participants) (now nodes) ⌝ }
+    ensures { λ r. ⌜
+        Made (Ask.Exchange w expected new) (now (globals .entry)) (now (participants .entry)) (now (nodes .entry))
+        r (now (globals .exit)) (now (participants .exit)) (now (nodes .exit))
+        ⌝ }
+{
+    let found = read_word(globals, participants, nodes, w);
+    if found != expected {
+        return Seen {
+            value: found,
+            won: false,
+        };
+    }
+    write_word(globals, participants, nodes, w, new);
+    Seen {
+        value: found,
+        won: true,
+    }
+}
+
+// The same by the Rust's `compare_exchange_weak`, which here too fails only on a different value. A function of its own, since it is the
+// one exchange that may fail without cause.
+fn compare_exchange_weak(
+    globals: &mut [u64],
+    participants: &mut [u64],
+    nodes: &mut [u64],
+    w: Word,
+    expected: u64,
+    new: u64,
+) -> Seen
+    requires { ⌜ wordIn w (now globals) (now participants) (now nodes) ⌝ }
+    ensures { λ r. ⌜
+        Made (Ask.ExchangeWeak w expected new) (now (globals .entry)) (now (participants .entry)) (now (nodes .entry))
+        r (now (globals .exit)) (now (participants .exit)) (now (nodes .exit))
+        ⌝ }
+{
+    compare_exchange(globals, participants, nodes, w, expected, new)
+}
+
+// Sets the tag of a word. Returns the value found.
+fn fetch_or(globals: &mut [u64], participants: &mut [u64], nodes: &mut [u64], w: Word) -> Seen
+    requires { ⌜ wordIn w (now globals) (now participants) (now nodes) ⌝ }
+    ensures { λ r. ⌜
+        Made (Ask.FetchOr w) (now (globals .entry)) (now (participants .entry)) (now (nodes .entry))
+        r (now (globals .exit)) (now (participants .exit)) (now (nodes .exit))
+        ⌝ }
+{
+    let found = read_word(globals, participants, nodes, w);
+    write_word(globals, participants, nodes, w, found | 1);
+    Seen {
+        value: found,
+        won: true,
+    }
+}
+
+// Makes the access that a place asks for. Returns what it saw.
+pub fn perform(globals: &mut [u64], participants: &mut [u64], nodes: &mut [u64], ask: Ask) -> Seen
+    requires { ⌜ wordIn (named ask) (now globals) (now participants) (now nodes) ⌝ }
+    ensures { λ r. ⌜
+        Made ask (now (globals .entry)) (now (participants .entry)) (now (nodes .entry))
+        r (now (globals .exit)) (now (participants .exit)) (now (nodes .exit))
+        ⌝ }
+{
+    match ask {
+        Ask::Load(w) => {
+            let found = read_word(globals, participants, nodes, w);
+            Seen {
+                value: found,
+                won: true,
+            }
+        }
+        Ask::Store(w, v) => {
+            write_word(globals, participants, nodes, w, v);
+            Seen {
+                value: 0,
+                won: true,
+            }
+        }
+        Ask::Exchange(w, e, v) => compare_exchange(globals, participants, nodes, w, e, v),
+        Ask::ExchangeWeak(w, e, v) => compare_exchange_weak(globals, participants, nodes, w, e, v),
+        Ask::FetchOr(w) => fetch_or(globals, participants, nodes, w),
+    }
+}
