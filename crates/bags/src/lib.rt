@@ -1,4 +1,4 @@
-// Bags, the port of crossbeam-epoch's `Bag` and `SealedBag` (src/internal.rs).
+// Bags in the lent lists: the items of crossbeam-epoch's `Bag` and `SealedBag` (src/internal.rs).
 //
 // A bag holds what waits to be freed. A participant's own bag stands in its row of the list `held`; sealed with an epoch it is moved into
 // a node, whose row of `nodes` has the node's next, the seal and the length, and whose row of `queued` has the items. In the Rust an item
@@ -8,62 +8,22 @@ use definition::Item;
 use definition::Node;
 use definition::Slot;
 use epoch::Epoch;
+use flow::Bag;
 ghost use mathlib.Core.Path.{_≡_};
 ghost use mathlib.Core.Bool.{true};
 ghost use mathlib.Core.List.{[], _∷_};
 ghost use Prim.Native.Nat.{_+_, _*_, _^_, _≤_, _<_};
 ghost use lib.ListN.{length, set, drop};
 ghost use lib.Seq.{paste, sets};
-ghost use Rattle.definition.specs.Bags.{isExpired, itemWord, itemOf, items, tokens};
+ghost use Rattle.definition.specs.Bags.{itemWord, itemOf, items, tokens};
 ghost use Rattle.bits.specs.Bits.{wordsAt};
-ghost use Rattle.bags.specs.Bags.{stamped, bagSeal, bagLen, bagItems, filled, freeItem, freeItems, hasBit, haveBits};
+ghost use Rattle.bags.specs.Bags.{stamped, bagLen, bagItems, filled, freeItem, freeItems, hasBit, haveBits};
 
-// The head of a bag of deferred items; the items themselves stand in a lent list.
-pub struct Bag {
-    pub len: u64,
-}
+// A bag has a row of this many words for its items.
+const ROW: usize = Bag::MAX_OBJECTS as usize;
 
-impl Bag {
-    // Maximum number of items a bag can contain.
-    pub const MAX_OBJECTS: u64 = 64;
-
-    // The same as a width: each bag has a row of this many words.
-    const ROW: usize = Bag::MAX_OBJECTS as usize;
-}
-
-// A pair of an epoch and a bag.
-pub struct SealedBag {
-    pub epoch: Epoch,
-    pub bag: Bag,
-}
-
-impl SealedBag {
-    // Words of a node's row: its next, the seal, the length of its bag.
-    const ROW: usize = 3;
-
-    // Returns the sealed bag of a node.
-    pub fn at(nodes: &[u64], node: usize) -> Self
-        requires { ⌜ node * 3 + 3 ≤ length (now nodes) ⌝ }
-        ensures { λ r. ⌜ (r .epoch .0 ≡ bagSeal (now (nodes .entry)) node) × (r .bag .len ≡ bagLen (now (nodes .entry)) node) ⌝ }
-    {
-        let w = nodes[node * SealedBag::ROW + 1];
-        let k = nodes[node * SealedBag::ROW + 2];
-        SealedBag {
-            epoch: Epoch(w),
-            bag: Bag { len: k },
-        }
-    }
-
-    // Checks if it is safe to drop the bag w.r.t. the given global epoch.
-    pub fn is_expired(self, global_epoch: Epoch) -> bool
-        ensures { λ r. ⌜ r ≡ isExpired (self .epoch .0) («global_epoch» .0) ⌝ }
-    {
-        // A pinned participant can witness at most one epoch advancement. Therefore, any bag that is within one epoch of the current one
-        // cannot be destroyed yet.
-        let sealed = self.epoch;
-        global_epoch.wrapping_sub(sealed) >= 2
-    }
-}
+// Words of a node's row: its next, the seal, the length of its bag.
+const NODE_ROW: usize = 3;
 
 // Returns the word that stands for an item; it must be one.
 pub fn item_word(item: Item) -> u64
@@ -94,7 +54,7 @@ pub fn put_item(held: &mut [u64], p: usize, k: usize, item: Item)
     requires { ⌜ (p * 64 + k < length (now held)) × (itemWord item < 2 ^ 64) ⌝ }
     ensures { λ r. ⌜ now (held .exit) ≡ set (now (held .entry)) (p * 64 + k) (itemWord item) ⌝ }
 {
-    let place = p * Bag::ROW + k;
+    let place = p * ROW + k;
     let w = item_word(item);
     held[place] = w;
 }
@@ -115,7 +75,7 @@ pub fn seal_bag(
         × (now (queued .exit) ≡ paste (now (queued .entry)) (node * 64) (drop (p * 64) (now (held .entry))) k)
         ⌝ }
 {
-    move_items(held, p * Bag::ROW, queued, node * Bag::ROW, k);
+    move_items(held, p * ROW, queued, node * ROW, k);
     stamp(nodes, node, e, k);
 }
 
@@ -136,7 +96,7 @@ fn stamp(nodes: &mut [u64], node: usize, e: Epoch, k: usize)
     requires { ⌜ node * 3 + 3 ≤ length (now nodes) ⌝ }
     ensures { λ r. ⌜ now (nodes .exit) ≡ stamped (now (nodes .entry)) node (e .0) k ⌝ }
 {
-    let at = node * SealedBag::ROW;
+    let at = node * NODE_ROW;
     nodes[at] = 0;
     nodes[at + 1] = e.0;
     nodes[at + 2] = k as u64;
@@ -162,9 +122,9 @@ pub fn free_bag(
         × (now (freed .exit) ≡ filled (tokens (bagItems (now (nodes .entry)) (now (queued .entry)) node)) (now (freed .entry)))))
         ⌝ }
 {
-    let len_at = node * SealedBag::ROW + 2;
+    let len_at = node * NODE_ROW + 2;
     let k = nodes[len_at] as usize;
-    let t = free_items(globals, n, queued, node * Bag::ROW, k, freed);
+    let t = free_items(globals, n, queued, node * ROW, k, freed);
     nodes[len_at] = 0;
     t as u64
 }

@@ -26,6 +26,9 @@ use definition::RegisterAt;
 use definition::Slot;
 use definition::Then;
 use definition::WalkAt;
+use flow::Bag;
+use flow::Global;
+use internal::places::is_rest;
 use records::decode;
 use records::encode;
 use records::load_record;
@@ -49,11 +52,10 @@ pub const MAX_PARTICIPANTS: usize = 32;
 
 pub const MAX_NODES: usize = 128;
 
-// internal.rs, `MAX_OBJECTS` and `COLLECT_STEPS`; document 01's largest token, and its largest guard or handle count.
-pub const MAX_OBJECTS: usize = 64;
+// A bag has a row of this many words for its items.
+const ROW: usize = Bag::MAX_OBJECTS as usize;
 
-pub const COLLECT_STEPS: u64 = 8;
-
+// Document 01's largest token, and its largest guard or handle count.
 pub const MAX_TOKEN: u64 = 2147483647;
 
 pub const MAX_COUNT: u64 = 65535;
@@ -129,7 +131,7 @@ fn pops_in(p: Pops) -> bool
     ensures { λ r. ⌜ ((n m : ℕ) → r ≡ popsIn n m p) ⌝ }
 {
     let left = p.left;
-    (1 <= left) & (left <= COLLECT_STEPS)
+    (1 <= left) & (left <= Global::COLLECT_STEPS)
 }
 
 // Returns whether an item that waits, and what its caller holds, are in range.
@@ -226,28 +228,6 @@ pub fn place_in(n: u64, m: u64, place: Place) -> bool
     }
 }
 
-// Returns whether a place is rest.
-pub fn is_rest(place: Place) -> bool
-    ensures { λ r. ⌜ r ≡ isRest place ⌝ }
-{
-    match place {
-        Place::Rest => true,
-        Place::Register(_) => false,
-        Place::PinEpoch(_) => false,
-        Place::PinWord(_, _) => false,
-        Place::Repin(_) => false,
-        Place::UnpinWord => false,
-        Place::AdvanceEpoch(_) => false,
-        Place::Walk(_, _) => false,
-        Place::AdvanceWord(_, _, _) => false,
-        Place::AdvanceStore(_) => false,
-        Place::Pop(_, _) => false,
-        Place::Push(_, _) => false,
-        Place::FinalWord => false,
-        Place::FinalTag => false,
-    }
-}
-
 // ---- a participant's record
 
 // Returns whether a code is one that a place has, with nothing in the columns that the place leaves empty, and what it carries is in range.
@@ -337,10 +317,10 @@ fn bag_in(n: u64, m: u64, k: u64, items: &[u64], row: usize) -> bool
     requires { ⌜ row * 64 + 64 ≤ length (now items) ⌝ }
     ensures { λ r. ⌜ r ≡ bagIn n m k (cell maxObjects (now (items .entry)) row) ⌝ }
 {
-    if k > MAX_OBJECTS as u64 {
+    if k > Bag::MAX_OBJECTS {
         return false;
     }
-    items_in(n, m, items, row * MAX_OBJECTS, k as usize)
+    items_in(n, m, items, row * ROW, k as usize)
 }
 
 // Returns whether participant `i`, its link and its bag are in range.
@@ -472,8 +452,8 @@ fn lengths(
     (globals.len() == node_bits_at(n) + bit_words(m))
         & (participants.len() == n * PARTICIPANT_WORDS)
         & (nodes.len() == m * NODE_WORDS)
-        & (held.len() == n * MAX_OBJECTS)
-        & (queued.len() == m * MAX_OBJECTS)
+        & (held.len() == n * ROW)
+        & (queued.len() == m * ROW)
 }
 
 // Returns whether the sizes are taken and each list has its length: refusal 2 where not. The limits come first, so that no product wraps.

@@ -54,11 +54,11 @@ pub fn item_buffer() -> [u64; 8192]
     [0u64; 8192]
 }
 
-// Returns a list for the tokens that one step frees: a bag's at most.
-pub fn freed_buffer() -> [u64; 64]
-    ensures { λ r. ⌜ r ≡ replicate 64 0 ⌝ }
+// Returns a list for the tokens that one step frees: a bag's at most, so that half of it always stays as it was.
+pub fn freed_buffer() -> [u64; 128]
+    ensures { λ r. ⌜ r ≡ replicate 128 0 ⌝ }
 {
-    [0u64; 64]
+    [0u64; 128]
 }
 
 // ---- the lists
