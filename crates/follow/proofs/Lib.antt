@@ -1,0 +1,2 @@
+-- Laws of `follow`.
+pub mod Laws

@@ -1,0 +1,2 @@
+-- What the promises of `follow` cite.
+pub mod Follow
