@@ -92,7 +92,7 @@ module _ (N M p : ℕ) (t : Tables) (h : absent N M p t ≡ false) where
 -- ---- what is not refused is a move
 
 -- a step: its node is there by the room clause, and the epoch is small by assumption
-pub passes-step : (N M places p : ℕ) (t : Tables) (g : Ghost) → Inv N M (view t) g → G (view t) + 1 < 2 ^ 62 → refusal (stepChecks N M places p t) ≡ 0 → Steps N M p (view t)
+pub passes-step : (N M places p : ℕ) (t : Tables) (g : Ghost) → Inv N M (view t) g → G (view t) < 2 ^ 62 → refusal (stepChecks N M places p t) ≡ 0 → Steps N M p (view t)
 unfolding stepChecks Public.running
 passes-step N M places p t g inv small h =
     let a = passes 1 (damaged N M t) _ (λ z. omega arith) h in

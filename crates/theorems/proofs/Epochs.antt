@@ -38,7 +38,7 @@ pub num-pinned : (w : ℕ) → num (pinned w) ≡ num w
 unfolding num pinned unpinned
 num-pinned w = omega arith
 
-pub num-successor : (w : ℕ) → num w + 1 < 2 ^ 62 → num (successor w) ≡ num w + 1
+pub num-successor : (w : ℕ) → num w < 2 ^ 62 → num (successor w) ≡ num w + 1
 unfolding num successor
 num-successor w h = omega arith
 

@@ -252,7 +252,7 @@ module _ (N M p : ℕ) (c : Call) (m : Machine) (g : Ghost) (inv : Inv N M m g) 
   unfolding called goes
   word-call q = ap (λ (f : Tab ℕ). f q) (word-goes p m (m .shared) a)
 
-  epoch-call : G (called N p c m) ≡ G m
+  pub epoch-call : G (called N p c m) ≡ G m
   unfolding called goes G
   epoch-call = ap num (epoch-goes p m (m .shared) a)
 

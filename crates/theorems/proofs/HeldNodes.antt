@@ -114,7 +114,7 @@ module _ (N M : ℕ) (m m′ : Machine) (g g′ : Ghost) (inv : Inv N M m g) (ow
 
     -- ---- what the next place holds
 
-    module _ (small : G m + 1 < 2 ^ 62) where
+    module _ (small : G m < 2 ^ 62) where
       -- of what follows the access, and of the shared words that the access left, which the work leaves to placed nodes
       unfoldable Nodes : After → Type 0
       Nodes a = NodesAt M m′ g′ (g .gpin d) (a .participant .place)

@@ -83,7 +83,7 @@ pub record Steps (N M p : ℕ) (m : Machine) : Type 0 where
   pub present : m .slotFree p ≡ false
   pub running : m .own p .place ≢ Place.Rest
   pub spare : takesNode (m .own p .place) ≡ true → (least M (m .nodeFree) < M) × (1 ≤ m .own p .share)
-  pub small : G m + 1 < 2 ^ 62
+  pub small : G m < 2 ^ 62
 
 -- ---- a call of participant p
 

@@ -39,3 +39,4 @@ pub mod EpochsKept
 pub mod Whole
 pub mod Start
 pub mod Checks
+pub mod Runs

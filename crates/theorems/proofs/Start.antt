@@ -218,3 +218,7 @@ inv-start N M hN hM = rw (view-fresh N M) (record {
   bagged = bagged N M hM;
   roomy = roomy N M hM;
 })
+
+-- and nothing waits
+pub nothing-waits : (N M : ℕ) → 2 ≤ M → (x : Item) → occurs N M (view (fresh N M)) x ≡ 0
+nothing-waits N M hM x = rw (view-fresh N M) (occurs-none N M hM x)
