@@ -4,12 +4,12 @@
 use mathlib.Core.Path.{_≡_, refl, ap, sym, _∙_}
 use mathlib.Core.Logic.{_≢_}
 use mathlib.Core.Bool.{Bool, true, false, _&&_, true≢false}
-use mathlib.Core.Option.{Option, none, some}
-use Prim.Native.Nat.{ℕ, _+_, _≤_, _<_, min}
+use mathlib.Core.Option.{Option, none}
+use Prim.Native.Nat.{ℕ, _+_, _≤_, _<_}
 use native.Mathlib.Omega.{arith}
 use native.Mathlib.Nat.{le-refl}
 use lib.Dec.{ltb, leb}
-use borrow.Author.Tests.{lt-ltb, leb-true, leb-false}
+use borrow.Author.Tests.{lt-ltb, leb-false}
 use Rattle.epoch.specs.Epoch.{starting, isPinned}
 use Rattle.epoch.proofs.Laws.{isPinned-starting}
 use Rattle.definition.specs.Base.{branch, Tab, put}
@@ -19,51 +19,50 @@ use Rattle.definition.specs.Calls.{opens, begins}
 use Rattle.definition.specs.Public.{newParticipant}
 use Rattle.definition.proofs.Base.{branch-ind, same?, put-ind, put-same, put-other}
 use Rattle.theorems.proofs.Machine.{Machine, Sealed, withShared, works, followed}
-use Rattle.theorems.proofs.Ghost.{Use, NodeUse, Ghost, Turn, turnOf, num, G, headOf, tailOf, low, useTurned, goneTurned, nodeTurned, posTurned, lastTurned, nodeWorked, gpinAfter, pastAfter, moved}
+use Rattle.theorems.proofs.Ghost.{Use, NodeUse, Ghost, Turn, num, G, headOf, tailOf, low, useTurned, goneTurned, nodeTurned, posTurned, lastTurned, nodeWorked, gpinAfter, pastAfter, moved}
 use Rattle.theorems.proofs.Invariant.{Of, walkEpoch, popEpoch, storeEpoch, Pinned, Epochs}
-use Rattle.theorems.proofs.Inv.{Inv, Steps, Calls, wonOf, leftOf, afterOf, goes, goesGhost, stepped, steppedGhost, called, calledGhost, registered, registeredGhost}
+use Rattle.theorems.proofs.Inv.{Inv, Steps, Calls, leftOf, afterOf, goes, goesGhost, stepped, steppedGhost, called, calledGhost, registered, registeredGhost}
 use Rattle.theorems.proofs.Inv as I
 use Rattle.theorems.proofs.Frames.{own-goes, epoch-goes, word-goes}
 use Rattle.theorems.proofs.Moves.{workOf, Deferred, Kind}
-use Rattle.theorems.proofs.Queue.{Lined, spare≢placed, taken≢placed, freed-ind, freed-was}
+use Rattle.theorems.proofs.Queue.{Lined, taken≢placed, freed-ind, freed-was}
 use Rattle.theorems.proofs.Nodes.{Turned, kind-of, call-of, head-in, step-turned, still}
-use Rattle.theorems.proofs.Carried.{Carried}
 use Rattle.theorems.proofs.RecordsCalls.{begins-light, light-uses}
 use Rattle.theorems.proofs.Walks.{walks-step, walks-call, walks-register}
 use Rattle.theorems.proofs.Epochs.{of-none, gpin-same, mono, pins-after, carried-after, gone-after, tries-after}
-use Rattle.theorems.proofs.Types.{Node, Item, Deferring, Place, Participant, Word, Work, After, Call}
+use Rattle.theorems.proofs.Types.{Node, Item, Deferring, Place, Participant, Work, After, Call}
 
 -- ---- bags and their seals
 
--- a bag sealed by this work has an epoch of at most b
-unfoldable SealLe : ℕ → Work → Type 0
-SealLe b Work.Nothing = Unit {0}
-SealLe b (Work.Put i) = Unit {0}
-SealLe b (Work.PutThenFree i n) = Unit {0}
-SealLe b (Work.Seal n e) = num (e .0) ≤ b
+-- what is asked of the epoch with which a bag is sealed
+unfoldable pub SealOf : (ℕ → Type 0) → Work → Type 0
+SealOf P Work.Nothing = Unit {0}
+SealOf P (Work.Put i) = Unit {0}
+SealOf P (Work.PutThenFree i n) = Unit {0}
+SealOf P (Work.Seal n e) = P (e .0)
 
 -- a deferring seals nothing
-deferred-seal : (b : ℕ) (d : Deferring) (w : Work) (pl′ : Place) → Deferred d w pl′ → SealLe b w
-unfolding SealLe workOf
-deferred-seal b (Deferring.Token token) w pl′ (Deferred.stored k) = tt
-deferred-seal b (Deferring.Slot t c succ) w pl′ (Deferred.stored k) = tt
-deferred-seal b (Deferring.Node q head next) w pl′ (Deferred.stored k) = tt
-deferred-seal b d w pl′ Deferred.waits = tt
+deferred-seal : (P : ℕ → Type 0) (d : Deferring) (w : Work) (pl′ : Place) → Deferred d w pl′ → SealOf P w
+unfolding SealOf workOf
+deferred-seal P (Deferring.Token token) w pl′ (Deferred.stored k) = tt
+deferred-seal P (Deferring.Slot t c succ) w pl′ (Deferred.stored k) = tt
+deferred-seal P (Deferring.Node q head next) w pl′ (Deferred.stored k) = tt
+deferred-seal P d w pl′ Deferred.waits = tt
 
 -- what is sealed is sealed with the global epoch
-kind-seal : (p b : ℕ) (spare : Node) (s s′ : Shared) (pl : Place) (v : Turn) (i : Option Item) (w : Work) (pl′ : Place)
-    → Kind p spare s s′ pl v i w pl′ → num (s .globalEpoch) ≤ b → SealLe b w
-unfolding SealLe
-kind-seal p b spare s s′ pl v i w pl′ (Kind.idle h k) le = tt
-kind-seal p b spare s s′ pl v i w pl′ (Kind.enlists h k) le = tt
-kind-seal p b spare s s′ pl v i w pl′ (Kind.seals h) le = le
-kind-seal p b spare s s′ pl v i w pl′ (Kind.links h) le = tt
-kind-seal p b spare s s′ pl v i w pl′ (Kind.pops h k) le = tt
-kind-seal p b spare s s′ pl v i w pl′ (Kind.unlinks h e k) le = deferred-seal b _ w pl′ k
-kind-seal p b spare s s′ pl v i w pl′ (Kind.retires h e k) le = deferred-seal b _ w pl′ k
-kind-seal p b spare s s′ pl v i w pl′ (Kind.moves h e k) le = deferred-seal b _ w pl′ k
-kind-seal p b spare s s′ pl v i w pl′ (Kind.pushes h k) le = deferred-seal b _ w pl′ k
-kind-seal p b spare s s′ pl v i w pl′ (Kind.accepts h k) le = deferred-seal b _ w pl′ k
+pub kind-seal : (p : ℕ) (P : ℕ → Type 0) (spare : Node) (s s′ : Shared) (pl : Place) (v : Turn) (i : Option Item) (w : Work) (pl′ : Place)
+    → Kind p spare s s′ pl v i w pl′ → P (s .globalEpoch) → SealOf P w
+unfolding SealOf
+kind-seal p P spare s s′ pl v i w pl′ (Kind.idle h k) now = tt
+kind-seal p P spare s s′ pl v i w pl′ (Kind.enlists h k) now = tt
+kind-seal p P spare s s′ pl v i w pl′ (Kind.seals h) now = now
+kind-seal p P spare s s′ pl v i w pl′ (Kind.links h) now = tt
+kind-seal p P spare s s′ pl v i w pl′ (Kind.pops h k) now = tt
+kind-seal p P spare s s′ pl v i w pl′ (Kind.unlinks h e k) now = deferred-seal P _ w pl′ k
+kind-seal p P spare s s′ pl v i w pl′ (Kind.retires h e k) now = deferred-seal P _ w pl′ k
+kind-seal p P spare s s′ pl v i w pl′ (Kind.moves h e k) now = deferred-seal P _ w pl′ k
+kind-seal p P spare s s′ pl v i w pl′ (Kind.pushes h k) now = deferred-seal P _ w pl′ k
+kind-seal p P spare s s′ pl v i w pl′ (Kind.accepts h k) now = deferred-seal P _ w pl′ k
 
 module _ (M p : ℕ) (m : Machine) (g : Ghost) (v : Turn) (s : Shared) (t : Turned M g (m .shared) v s) where
   -- a node in use after the access was in use before
@@ -71,9 +70,9 @@ module _ (M p : ℕ) (m : Machine) (g : Ghost) (v : Turn) (s : Shared) (t : Turn
   in-use x ne e = ne (t .spare x e)
 
   -- the seal of a node in use, after the work
-  seal-worked : (b : ℕ) (w : Work) → SealLe b w → ((x : ℕ) → x < M → g .nodeUse x ≢ NodeUse.spare → num (m .bag x .epoch) ≤ b)
+  seal-worked : (b : ℕ) (w : Work) → SealOf (λ e. num e ≤ b) w → ((x : ℕ) → x < M → g .nodeUse x ≢ NodeUse.spare → num (m .bag x .epoch) ≤ b)
       → (x : ℕ) → x < M → nodeWorked w m (nodeTurned v (g .nodeUse)) x ≢ NodeUse.spare → num (works p w (withShared s m) .bag x .epoch) ≤ b
-  unfolding SealLe works nodeWorked
+  unfolding SealOf works nodeWorked
   seal-worked b Work.Nothing k h x hx ne = h x hx (in-use x ne)
   seal-worked b (Work.Put i) k h x hx ne = h x hx (in-use x ne)
   seal-worked b (Work.PutThenFree i n) k h x hx ne =
@@ -99,7 +98,7 @@ placed-turned (Turn.links n) u pos last x h old new = same? n x
     (λ nj. old (rw (put-other u n x NodeUse.placed nj) at h))
 
 -- a node placed after the work was placed before it
-placed-worked : (w : Work) (m : Machine) (u : Tab NodeUse) (x : ℕ) → nodeWorked w m u x ≡ NodeUse.placed → u x ≡ NodeUse.placed
+pub placed-worked : (w : Work) (m : Machine) (u : Tab NodeUse) (x : ℕ) → nodeWorked w m u x ≡ NodeUse.placed → u x ≡ NodeUse.placed
 unfolding nodeWorked
 placed-worked Work.Nothing m u x h = h
 placed-worked (Work.Put i) m u x h = h
@@ -165,7 +164,7 @@ module _ (N M p : ℕ) (m : Machine) (g : Ghost) (inv : Inv N M m g) (st : Steps
   seal-after x hx ne =
       let up : G m ≤ G (stepped M p m) = mono N M p m g inv st in
       unfold stepped goes followed in (seal-worked M p m g _ _ (step-turned N M p m g inv st) (G (stepped M p m)) (afterOf M p m .work)
-      (kind-seal p (G (stepped M p m)) _ _ _ _ _ _ _ _ (kind-of N M p m g inv st) up) (λ y hy k. let z = inv .epochs .sealLe y hy k in omega arith) x hx ne)
+      (kind-seal p (λ e. num e ≤ G (stepped M p m)) _ _ _ _ _ _ _ _ (kind-of N M p m g inv st) up) (λ y hy k. let z = inv .epochs .sealLe y hy k in omega arith) x hx ne)
 
   -- the nodes that head and tail have left
   past-after : (x : ℕ) → x < M → steppedGhost M p m g .nodeUse x ≡ NodeUse.placed → steppedGhost M p m g .pos x < low (steppedGhost M p m g .pos) (stepped M p m .shared)
@@ -175,11 +174,12 @@ module _ (N M p : ℕ) (m : Machine) (g : Ghost) (inv : Inv N M m g) (st : Steps
       (G (stepped M p m)) (afterOf M p m .work) (mono N M p m g inv st) x hx h lt
 
   -- the pins and the words, as `Epochs` speaks of them
-  gpin-step : (q : ℕ) → steppedGhost M p m g .gpin q ≡ gpinAfter (G m) (m .shared .word) (leftOf M p m .word) (g .gpin) q
+  pub gpin-step : (q : ℕ) → steppedGhost M p m g .gpin q ≡ gpinAfter (G m) (m .shared .word) (leftOf M p m .word) (g .gpin) q
   unfolding steppedGhost goesGhost moved
   gpin-step q = refl
 
-  word-step : (q : ℕ) → stepped M p m .shared .word q ≡ leftOf M p m .word q
+  -- the words are those that the access left
+  pub word-step : (q : ℕ) → stepped M p m .shared .word q ≡ leftOf M p m .word q
   unfolding stepped
   word-step q = ap (λ (f : Tab ℕ). f q) (word-goes p m (leftOf M p m) (afterOf M p m))
 
@@ -211,14 +211,17 @@ on-bare : (pl : Place) (o : Participant) → walkEpoch pl ≡ none → popEpoch 
 unfolding Bare on
 on-bare pl o a b c = (a, (b, c))
 
+-- an operation that is done
 done-bare : (v : ℕ) (o : Participant) → Bare (done v o)
 unfolding Bare done walkEpoch popEpoch storeEpoch
 done-bare v o = (refl, (refl, refl))
 
+-- a token put into the bag
 token-bare : (token : ℕ) (o : Participant) → Bare (placed (Deferring.Token token) o)
 unfolding Bare placed also done walkEpoch popEpoch storeEpoch
 token-bare token o = (refl, (refl, refl))
 
+-- one or the other
 pick-bare : (b : Bool) (x y : After) → Bare x → Bare y → Bare (branch b x y)
 pick-bare b x y h k = branch-ind Bare b (λ _. h) (λ _. k)
 
@@ -236,22 +239,26 @@ begins-bare (Call.Defer token) o = search bares
 begins-bare Call.Flush o = search bares
 
 module _ (N M p : ℕ) (c : Call) (m : Machine) (g : Ghost) (inv : Inv N M m g) (ca : Calls N M p c m) where
+  -- what follows the call
   abbrev a : After
   a = opens N c (m .own p)
 
+  -- the call's new place
   opens-bare : Bare a
   unfolding opens
   opens-bare = begins-bare c _
 
   -- words, pins, the global epoch and the places of a call
-  gpin-call : (q : ℕ) → calledGhost N p c m g .gpin q ≡ g .gpin q
+  pub gpin-call : (q : ℕ) → calledGhost N p c m g .gpin q ≡ g .gpin q
   unfolding calledGhost moved
   gpin-call q = gpin-same (G m) (m .shared .word) (m .shared .word) (g .gpin) q refl
 
-  word-call : (q : ℕ) → called N p c m .shared .word q ≡ m .shared .word q
+  -- no word is stored
+  pub word-call : (q : ℕ) → called N p c m .shared .word q ≡ m .shared .word q
   unfolding called goes
   word-call q = ap (λ (f : Tab ℕ). f q) (word-goes p m (m .shared) a)
 
+  -- nor is the global epoch
   pub epoch-call : G (called N p c m) ≡ G m
   unfolding called goes G
   epoch-call = ap num (epoch-goes p m (m .shared) a)
@@ -262,16 +269,19 @@ module _ (N M p : ℕ) (c : Call) (m : Machine) (g : Ghost) (inv : Inv N M m g) 
   carried-call P f e q h = rw (own-goes p m (m .shared) a q)
       (put-ind (λ (o : Participant). Of P (f (o .place))) (m .own) p q (a .participant) (λ _. of-none P (f (a .participant .place)) e) (λ _. h))
 
+  -- the seals of nodes in use
   seal-called : (x : ℕ) → x < M → calledGhost N p c m g .nodeUse x ≢ NodeUse.spare → num (called N p c m .bag x .epoch) ≤ G m
   unfolding calledGhost moved called followed G
   seal-called x hx ne = seal-worked M p m g Turn.quiet (m .shared) (still N M p c m g inv ca) (num (m .shared .globalEpoch)) (a .work)
-      (kind-seal p (num (m .shared .globalEpoch)) _ _ _ _ _ _ _ _ (call-of N M p c m g inv ca) (le-refl (num (m .shared .globalEpoch)))) (λ y hy k. inv .epochs .sealLe y hy k) x hx ne
+      (kind-seal p (λ e. num e ≤ num (m .shared .globalEpoch)) _ _ _ _ _ _ _ _ (call-of N M p c m g inv ca) (le-refl (num (m .shared .globalEpoch)))) (λ y hy k. inv .epochs .sealLe y hy k) x hx ne
 
+  -- the nodes that head and tail have left
   past-called : (x : ℕ) → x < M → calledGhost N p c m g .nodeUse x ≡ NodeUse.placed → calledGhost N p c m g .pos x < low (calledGhost N p c m g .pos) (called N p c m .shared)
       → calledGhost N p c m g .past x ≤ G m
   unfolding calledGhost moved called followed
   past-called x hx h lt = past-goes N M p m g inv (ca .here) Turn.quiet (m .shared) (still N M p c m g inv ca) (λ _ _. refl) (G m) (a .work) (le-refl (G m)) x hx h lt
 
+  -- the slots that are out
   gone-called : (q : ℕ) → q < N → calledGhost N p c m g .slotUse q ≡ Use.out → calledGhost N p c m g .gone q ≤ G m
   unfolding calledGhost moved useTurned goneTurned opens
   gone-called q hq e = inv .epochs .goneLe q hq (sym (ap (λ (u : Tab Use). u q) (light-uses m a (g .slotUse) (begins-light c _))) ∙ e)
@@ -305,15 +315,18 @@ module _ (N M p : ℕ) (m : Machine) (g : Ghost) (inv : Inv N M m g) (re : I.Reg
       let ne : p ≢ q = λ e. true≢false (sym pq ∙ rw (← e, put-same (m .shared .word) p starting) isPinned-starting) in
       (ne, rw (put-other (m .shared .word) p q starting ne) at pq)
 
+  -- no other word is stored
   word-register : (q : ℕ) → p ≢ q → registered p m .shared .word q ≡ m .shared .word q
   unfolding registered write
   word-register q ne = put-other (m .shared .word) p q starting ne
 
+  -- what is asked of a carried epoch: the new place has none
   carried-register : (P : ℕ → Type 0) (f : Place → Option ℕ) → f (newParticipant .place) ≡ none → (q : ℕ) → Of P (f (m .own q .place)) → Of P (f (registered p m .own q .place))
   unfolding registered
   carried-register P f e q h =
       put-ind (λ (o : Participant). Of P (f (o .place))) (m .own) p q newParticipant (λ _. of-none P (f (newParticipant .place)) e) (λ _. h)
 
+  -- the new slot is not out
   not-out : put (g .slotUse) p Use.registering p ≢ Use.out
   not-out e = let k = sym (put-same (g .slotUse) p Use.registering) ∙ e in let z : _≡_ {A = ℕ} 0 1 = cc in omega arith
 

@@ -64,6 +64,7 @@ module _ (N M : ℕ) (t : Tables) (g : Ghost) (inv : Inv N M (view t) g) (st : S
 
 -- ---- the ghost goes along
 
+-- the ghost after an event
 unfoldable pub ghostAfter : {N M : ℕ} {t : Tables} {v : Event} {o : Out} → Happens N M t v o → Ghost → Ghost
 ghostAfter (Happens.refuses r h) g = g
 ghostAfter {M = M} {t = t} (Happens.goes {p = p} st) g = steppedGhost M p (view t) g
@@ -116,6 +117,7 @@ module _ (N M : ℕ) where
       let h = happens N M t (s .ghost) (s .inv) (s .stored) small v in
       record { ghost = ghostAfter h (s .ghost); inv = inv-happens N M t (s .ghost) (s .inv) (s .stored) h; stored = stored-happens N M t (s .ghost) (s .inv) (s .stored) h }
 
+  -- the global epoch's number rises by one at most, and only where its word changes
   pub epoch-does : (t : Tables) → Sound N M t → G (view t) < 2 ^ 62 → (v : Event)
       → G (view (does N M v t .tables)) ≤ G (view t) + branch (eqb (does N M v t .tables .shared .globalEpoch) (t .shared .globalEpoch)) 0 1
   unfolding G
@@ -134,13 +136,15 @@ module _ (N M : ℕ) where
       (k .0, omega arith)
 
 -- from a fresh start
-pub sound-fresh : (N M : ℕ) → 1 ≤ N → 2 ≤ M → Sound N M (fresh N M)
+unfoldable pub sound-fresh : (N M : ℕ) → 1 ≤ N → 2 ≤ M → Sound N M (fresh N M)
 sound-fresh N M hN hM = record { ghost = startGhost; inv = inv-start N M hN hM; stored = stored-fresh N M }
 
+-- the global epoch begins at 0
 pub fresh-epoch : (N M : ℕ) → G (view (fresh N M)) ≡ 0
 unfolding G num fresh starting
 fresh-epoch N M = refl
 
+-- the invariant at every point of a run
 pub sound-run : (N M : ℕ) → 1 ≤ N → 2 ≤ M → (l : List Event) → advances N M l (fresh N M) < 2 ^ 62
     → Sound N M (after N M l (fresh N M)) × (G (view (after N M l (fresh N M))) < 2 ^ 62)
 sound-run N M hN hM l lt =

@@ -92,7 +92,7 @@ module _ (N M : ℕ) (m : Machine) (g : Ghost) where
   old-from e k (Item.Slot s) h = omega arith
 
   module _ (inv : Inv N M m g) (p : ℕ) (hp : p < N) (n : ℕ) (pops : poppedNode (m .own p .place) ≡ some n) where
-    popped-here : SafeNode M g (m .shared) (g .gpin p) n × (num (m .bag n .epoch) + 2 ≤ G m)
+    pub popped-here : SafeNode M g (m .shared) (g .gpin p) n × (num (m .bag n .epoch) + 2 ≤ G m)
     popped-here = unfold Of in (rw pops at (popped-old (g .gpin p) (m .own p .place) (inv .held .holds p hp) (inv .epochs .popLe p hp)))
 
     -- everything in the bag that is about to be freed

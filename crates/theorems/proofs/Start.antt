@@ -1,31 +1,28 @@
 -- A fresh start has the invariant: nobody is registered, pinned or at work, the list is empty, the queue is its sentinel, node 0, with position 1, and
 -- every other node is free. Assumes nothing.
-use mathlib.Core.Path.{_≡_, refl, ap, sym, _∙_}
+use mathlib.Core.Path.{_≡_, refl, sym, _∙_}
 use mathlib.Core.Logic.{_≢_}
-use mathlib.Core.Bool.{Bool, true, false, _&&_, true≢false}
-use mathlib.Core.List.{List, []}
+use mathlib.Core.Bool.{_&&_, true≢false}
+use mathlib.Core.List.{[]}
 use Prim.Native.Nat.{ℕ, zero, suc, _+_, _≤_, _<_}
 use native.Mathlib.Omega.{arith}
-use lib.Dec.{eqb, ltb, leb}
-use lib.ListN.{length}
-use borrow.Author.Tests.{lt-ltb, le-leb, eqb-true}
-use Rattle.epoch.specs.Epoch.{starting, isPinned}
+use lib.Dec.{ltb, leb}
+use borrow.Author.Tests.{lt-ltb, le-leb}
 use Rattle.epoch.proofs.Laws.{isPinned-starting}
-use Rattle.definition.specs.Base.{branch, Tab, put, sum, listed}
-use Rattle.definition.specs.Links.{null, link, isTagged, isNull, index, pointee}
-use Rattle.definition.specs.Bags.{items, maxObjects}
-use Rattle.definition.specs.Codec.{codeOf, participantOf}
-use Rattle.definition.specs.Calls.{maxCount}
+use Rattle.definition.specs.Base.{branch, put, sum, listed}
+use Rattle.definition.specs.Links.{null, link, isNull, pointee}
+use Rattle.definition.specs.Bags.{items}
+use Rattle.definition.specs.Codec.{participantOf}
 use Rattle.definition.specs.Ranges.{fresh}
 use Rattle.definition.proofs.Base.{same?, put-same, put-other}
 use Rattle.definition.proofs.Codec.{place-back, index-link}
 use Rattle.definition.proofs.Within.{PlaceIn}
 use Rattle.theorems.proofs.Machine.{Machine, view}
-use Rattle.theorems.proofs.Ghost.{Use, NodeUse, Ghost, num, G, headOf, tailOf, low}
+use Rattle.theorems.proofs.Ghost.{Use, NodeUse, Ghost, num, G, headOf}
 use Rattle.theorems.proofs.Invariant.{Of, walkEpoch, popEpoch, storeEpoch, takenNode, oldHead, waitingItem, RepinPins, Fine, isUnused, Records, Pinned, Epochs, Born, ToLinked, OwnNext, Listed, Queued, HoldsAt, Held, waits, is, has, times, occurs, notOut, inQueue, isSpare, Used, Each, Bagged, Room, Roomy}
 use Rattle.theorems.proofs.Inv.{Ranged, Inv}
 use Rattle.theorems.proofs.Nodes.{null-is}
-use Rattle.theorems.proofs.Types.{Item, Ptr, Place, Participant}
+use Rattle.theorems.proofs.Types.{Item, Place, Participant}
 
 -- the ghost of a fresh start
 unfoldable pub startGhost : Ghost
@@ -45,6 +42,7 @@ startGhost = record {
 unfoldable resting : Participant
 resting = record { counts = record { guards = 0; handles = 0; pins = 0 }; held = 0; share = 0; place = Place.Rest }
 
+-- the machine of a fresh start
 unfoldable startMachine : (N M : ℕ) → Machine
 startMachine N M = record {
   shared = fresh N M .shared;
@@ -56,6 +54,7 @@ startMachine N M = record {
   aside = 0;
 }
 
+-- the tables of a fresh start are this machine
 view-fresh : (N M : ℕ) → view (fresh N M) ≡ startMachine N M
 unfolding fresh startMachine resting participantOf items listed
 view-fresh N M = λ i. record {
@@ -69,6 +68,7 @@ view-fresh N M = λ i. record {
 }
 
 module _ (N M : ℕ) (hM : 2 ≤ M) where
+  -- ranges
   ranged : Ranged N M (startMachine N M)
   unfolding startMachine resting fresh
   ranged = record {
@@ -84,6 +84,7 @@ module _ (N M : ℕ) (hM : 2 ≤ M) where
     shares = λ q hq e. refl;
   }
 
+  -- group C: every slot is unused and quiet
   records : Records N (startMachine N M) startGhost
   unfolding startMachine resting fresh startGhost
   records = record {
@@ -98,6 +99,7 @@ module _ (N M : ℕ) (hM : 2 ≤ M) where
   unfolding startMachine fresh
   unpinned q h = true≢false (sym h ∙ isPinned-starting)
 
+  -- group E: nobody is pinned or carries an epoch
   epochs : Epochs N M (startMachine N M) startGhost
   unfolding startGhost
   epochs = record {
@@ -118,6 +120,7 @@ module _ (N M : ℕ) (hM : 2 ≤ M) where
   unlinked : Use.unused ≡ Use.linked → ⊥
   unlinked e = let z : _≡_ {A = ℕ} 0 1 = cc in omega arith
 
+  -- group L: the list is empty
   listed-start : Listed N (startMachine N M) startGhost
   unfolding startGhost
   listed-start = record {
@@ -135,6 +138,7 @@ module _ (N M : ℕ) (hM : 2 ≤ M) where
   sentinel : (n : ℕ) → put (λ _. NodeUse.spare) 0 NodeUse.placed n ≡ NodeUse.placed → n ≡ 0
   sentinel n e = same? 0 n (λ i. sym i) (λ ne. let k = sym (put-other (λ _. NodeUse.spare) 0 n NodeUse.placed ne) ∙ e in let z : _≡_ {A = ℕ} 0 1 = cc in absurd (omega arith))
 
+  -- group Q: the queue is its sentinel
   queued : Queued M (startMachine N M) startGhost
   unfolding startMachine fresh startGhost
   queued = record {
@@ -147,6 +151,7 @@ module _ (N M : ℕ) (hM : 2 ≤ M) where
     goesOn = λ n hn e lo z. absurd (true≢false (sym null-is ∙ z));
   }
 
+  -- group H: nobody holds anything
   held : Held N M (startMachine N M) startGhost
   held = record { holds = λ q hq. unfold startMachine resting HoldsAt in tt }
 
@@ -156,10 +161,12 @@ module _ (N M : ℕ) (hM : 2 ≤ M) where
   nothing zero = refl
   nothing (suc n) = let k = nothing n in omega arith
 
+  -- no item is anywhere
   occurs-none : (x : Item) → occurs N M (startMachine N M) x ≡ 0
   unfolding startMachine resting occurs has times waits waitingItem
   occurs-none x = rw (nothing N, nothing M) refl
 
+  -- no node is held by a place
   held-none : (x : ℕ) → sum N (λ q. is x (takenNode (startMachine N M .own q .place)) + is x (oldHead (startMachine N M .own q .place))) ≡ 0
   unfolding startMachine resting takenNode oldHead is
   held-none x = nothing N
@@ -182,10 +189,12 @@ module _ (N M : ℕ) (hM : 2 ≤ M) where
       (λ e. rw (← e, put-same (λ _. NodeUse.spare) 0 NodeUse.placed) (unfold isSpare inQueue branch in refl))
       (λ ne. rw (put-other (λ _. NodeUse.spare) 0 x NodeUse.placed ne) (unfold isSpare inQueue branch in refl))
 
+  -- every node has one use
   nodes : (x : ℕ) → x < M → branch (startMachine N M .nodeFree x) 1 0 + inQueue (startGhost .nodeUse x) (startGhost .pos x) (startGhost .pos (headOf (startMachine N M .shared)))
       + sum N (λ q. is x (takenNode (startMachine N M .own q .place)) + is x (oldHead (startMachine N M .own q .place))) + occurs N M (startMachine N M) (Item.Node (record { 0 = x })) ≡ 1
   nodes x hx = let k = one x in rw (held-none x, occurs-none (Item.Node (record { 0 = x })), bits x hx) (omega arith)
 
+  -- group U
   used : Used N M (startMachine N M) startGhost
   used = record {
     slots = λ x hx. rw (occurs-none (Item.Slot (record { 0 = x }))) (unfold startGhost notOut in refl);
@@ -197,10 +206,12 @@ module _ (N M : ℕ) (hM : 2 ≤ M) where
     old = λ q hq. unfold startMachine resting oldHead Of in tt;
   }
 
+  -- group B: every bag is empty
   bagged : Bagged N M (startMachine N M) startGhost
   unfolding startMachine
   bagged = record { sealed = λ n hn. unfold Each in tt; spare = λ n hn e. refl; freed = λ n hn e le z. refl }
 
+  -- group R: nothing is set aside
   roomy : Roomy N M (startMachine N M) startGhost
   unfolding startMachine resting
   roomy = record { total = sym (nothing N); enough = omega arith; room = λ q hq. unfold Room in tt }

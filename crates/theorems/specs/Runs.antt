@@ -1,7 +1,6 @@
 -- Runs: events one after another on tables for N participants and M nodes, each a step with some number of places for freed tokens, a
 -- registering or a call; a refused event leaves the tables as they were. What is said of every list of events is said of every point of
 -- every run. Assumes nothing.
-use mathlib.Core.Bool.{Bool, true, false, _&&_}
 use mathlib.Core.List.{List, [], _∷_}
 use Prim.Native.Nat.{ℕ, _+_}
 use lib.Dec.{eqb}
