@@ -44,3 +44,4 @@ pub mod Leaving
 pub mod Tokens
 pub mod Late
 pub mod Theorem
+pub mod TailMove

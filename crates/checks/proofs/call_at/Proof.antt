@@ -1,0 +1,67 @@
+-- `call_at` meets its contract: an index that is not below N is refused as absent, whatever its row would say; of any other each check is found by a function. Assumes nothing.
+use native.Mathlib.Omega.{arith}
+use Rattle.checks.proofs.Laws.{call-out, call-in}
+use borrow.Author.Needs.{needs}
+use Rattle.checks.proofs.call_at.Statement.{statement}
+use Rattle.checks.proofs.call_at.Tie as tie
+
+call-refusal-requires : tie.Need-call-refusal-requires
+call-refusal-requires c κs = search needs
+
+returns : tie.Need-returns
+returns c = λ n h q. call-out _ _ _ _ _ _ (c .before .if1 .taken) (c .call-refusal .ensures)
+
+shared-slice-read-aside : tie.Need-shared-slice-read-aside
+shared-slice-read-aside c = search needs
+
+load-requires : tie.Need-load-requires
+load-requires c κs = search needs
+
+is-rest-requires : tie.Need-is-rest-requires
+is-rest-requires c κs = search needs
+
+gone-requires : tie.Need-gone-requires
+gone-requires c κs = search needs
+
+lacks-requires : tie.Need-lacks-requires
+lacks-requires c κs = search needs
+
+count-full-requires : tie.Need-count-full-requires
+count-full-requires c κs = search needs
+
+token-above-requires : tie.Need-token-above-requires
+token-above-requires c κs = search needs
+
+needs-requires : tie.Need-needs-requires
+needs-requires c κs = rw (c .before .before .before .before .before .load .ensures) (omega (arith, c .before .before .before .before .before .before .before .before .before .before .pre .1 .1 (c .before .before .before .before .before .before .before .if1 .left)))
+
+free-nodes-requires : tie.Need-free-nodes-requires
+free-nodes-requires c κs = search needs
+
+room-requires : tie.Need-room-requires
+room-requires c κs = search needs
+
+call-refusal-requires-2 : tie.Need-call-refusal-requires-2
+call-refusal-requires-2 c κs = search needs
+
+returns-2 : tie.Need-returns-2
+returns-2 c = λ n h q. call-in _ _ _ _ _ _ _ _ (c .before .before .before .before .before .before .before .before .before .before .before .if1 .left) (c .before .before .before .before .before .before .before .before .before .load .ensures) (c .before .before .before .before .before .before .before .before .is-rest .ensures) (c .before .before .before .before .before .before .before .gone .ensures) (c .before .before .free-nodes .ensures) _ _ _ _ _ _ _ (c .before .before .before .before .before .before .lacks .ensures) (c .before .before .before .before .before .count-full .ensures) (c .before .before .before .before .token-above .ensures) (c .before .before .before .needs .ensures) (c .before .room .ensures) (c .call-refusal2 .ensures)
+
+pub call-at-spec : {M : Type 1} → statement M
+call-at-spec =
+    tie.close
+    (tie.spec
+    call-refusal-requires
+    returns
+    shared-slice-read-aside
+    load-requires
+    is-rest-requires
+    gone-requires
+    lacks-requires
+    count-full-requires
+    token-above-requires
+    needs-requires
+    free-nodes-requires
+    room-requires
+    call-refusal-requires-2
+    returns-2)

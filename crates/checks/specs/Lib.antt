@@ -1,0 +1,2 @@
+-- What the promises of `checks` cite beside the definition.
+pub mod Refusals
