@@ -195,6 +195,15 @@ register-fine N M l e =
     let b = none 10 _ _ (λ z. absurd (omega arith)) (a .1) in
     record { whole = a .0; free = count-least N (tablesOf N M l .slotFree) (eqb-false _ _ (b .0)) }
 
+-- fine is no refusal
+pub fine-is : (k : ℕ) → Checked.Fine ≡ checkedOf k → k ≡ 0
+unfolding checkedOf branch
+fine-is k e = by (eqb k 0) refl e
+  where
+    by : (b : Bool) → eqb k 0 ≡ b → Checked.Fine ≡ branch b Checked.Fine (Checked.Refused k) → k ≡ 0
+    by true t f = eqb-true k 0 t
+    by false t f = let z : _≡_ {A = ℕ} 0 1 = cc in absurd (omega arith)
+
 -- ---- what the code finds, one thing after another
 
 -- sizes that are not right; right ones, and then the ranges

@@ -1,4 +1,5 @@
--- `call_at` meets its contract: an index that is not below N is refused as absent, whatever its row would say; of any other each check is found by a function. Assumes nothing.
+-- `call_at` meets its contract: an index that is not below N is refused as absent, whatever its row would
+-- say; of any other each check is found by a function. Assumes nothing.
 use native.Mathlib.Omega.{arith}
 use Rattle.checks.proofs.Laws.{call-out, call-in}
 use borrow.Author.Needs.{needs}

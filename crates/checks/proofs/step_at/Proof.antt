@@ -1,4 +1,5 @@
--- `step_at` meets its contract: an index that is not below N is refused as absent, whatever its row would say; of any other each check is found by a function. Assumes nothing.
+-- `step_at` meets its contract: an index that is not below N is refused as absent, whatever its row would
+-- say; of any other each check is found by a function. Assumes nothing.
 use Rattle.checks.proofs.Laws.{step-out, step-in}
 use borrow.Author.Needs.{needs}
 use Rattle.checks.proofs.step_at.Statement.{statement}
