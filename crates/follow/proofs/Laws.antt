@@ -1,12 +1,10 @@
 -- What follows an access, on the lent lists, is the definition's `follow` on the tables that they hold. Assumes nothing.
 use mathlib.Core.Path.{_≡_, refl, ap, sym, _∙_}
-use mathlib.Core.Bool.{Bool, true, false}
-use mathlib.Core.List.{List, []}
-use Prim.Native.Nat.{ℕ, _+_, _-_, _*_, _/_, _≤_, _<_}
+use mathlib.Core.Bool.{false}
+use Prim.Native.Nat.{ℕ, _+_, _-_, _*_, _≤_, _<_}
 use native.Mathlib.Omega.{arith}
 use lib.ListN.{length, getD, set, drop, length-set, length-drop}
 use lib.Seq.{getD-set-same, getD-set-other, length-paste}
-use Rattle.definition.specs.Base.{Tab}
 use Rattle.definition.specs.Bags.{maxObjects, tokens}
 use Rattle.definition.specs.Codec.{recordOf}
 use Rattle.definition.specs.Tables.{Tables}
@@ -16,17 +14,16 @@ use Rattle.definition.specs.Ranges.{bitWords}
 use Rattle.definition.specs.Step.{settle, putItem, sealInto, freeBag, freedBy, inBag, follow}
 use Rattle.definition.specs.declared.Work.{Work}
 use Rattle.definition.specs.declared.After.{After}
-use Rattle.definition.specs.declared.Participant.{Participant}
 use Rattle.definition.proofs.Lists.{Sized}
 use Rattle.bits.proofs.Laws.{bits-same, length-marked}
 use Rattle.bags.proofs.Nodes.{length-stamped}
 use Rattle.bags.specs.Bags.{bagItems}
 use Rattle.bags.proofs.Freeing.{length-freeItems, bag-items}
-use Rattle.records.specs.Stores.{storedRecord, storedLent}
+use Rattle.records.specs.Stores.{storedLent}
 use Rattle.records.proofs.Laws.{stored-tables, stored-length}
 use Rattle.settle.specs.Settle.{settledGlobals, settledNodes, settledHeld, settledQueued, settledTokens, settledLent}
 use Rattle.settle.proofs.Laws.{Fits, settled}
-use Rattle.follow.specs.Follow.{asideGlobals, followedGlobals, followedLent}
+use Rattle.follow.specs.Follow.{asideGlobals, followedLent}
 
 -- a list of `globals` with another set-aside total holds the same tables but for it
 pub aside-tables : (N M : ℕ) (l : Lent) (v : ℕ) → 4 < length (l .globals)
@@ -72,7 +69,7 @@ settle-aside p (Work.Seal x e) t = refl
 
 module _ (N M p k : ℕ) (l : Lent) (s : Sized N M l) (hp : p < N) where
   -- the lists that it leaves are as long as they were
-  settled-sized : (w : Work) → Fits N M p k w l → Sized N M (settledLent N p k w l)
+  pub settled-sized : (w : Work) → Fits N M p k w l → Sized N M (settledLent N p k w l)
   unfolding settledGlobals settledNodes settledHeld settledQueued Fits
   settled-sized Work.Nothing f = record { globals = s .globals; participants = s .participants; nodes = s .nodes; held = s .held; queued = s .queued }
   settled-sized (Work.Put i) f =
@@ -93,6 +90,12 @@ module _ (N M p k : ℕ) (l : Lent) (s : Sized N M l) (hp : p < N) where
         (rw (s .queued) (let h : x .0 < M = f .1 in let small : k ≤ 64 = f .0 in omega arith))
         (rw (length-drop (p * 64) (l .held), s .held) (let small : k ≤ 64 = f .0 in omega arith)) ∙ s .queued;
   }
+
+  -- and the set-aside total is as it was
+  pub settled-total : recordAt (cell participantWords (l .participants) p) .held ≡ k → (w : Work) → Fits N M p k w l
+      → getD (settledGlobals N w (l .globals) (l .nodes) (l .queued)) 4 0 ≡ getD (l .globals) 4 0
+  settled-total held w f =
+      sym (total-of N M (settledLent N p k w l)) ∙ ap (λ (t : Tables). t .aside) (settled N M p k l s hp held w f) ∙ settle-aside p w (tablesOf N M l) ∙ total-of N M l
 
   -- the tokens that come out are the definition's
   pub tokens-same : (w : Work) → Fits N M p k w l → settledTokens w (l .nodes) (l .queued) ≡ freedBy w (tablesOf N M l)

@@ -1,0 +1,99 @@
+-- The values that the code of a step computes, one after another, and what follows from them: `follow` may be called, and what it leaves is the
+-- definition's step. Over plain variables, so that nothing of the code stands here. Assumes nothing.
+use mathlib.Core.Path.{_≡_, ap, _∙_}
+use mathlib.Core.List.{List}
+use Prim.Native.Nat.{ℕ, _+_, _*_, _^_, _≤_, _<_}
+use native.Mathlib.Omega.{arith}
+use lib.ListN.{length, getD}
+use Rattle.definition.specs.Base.{least}
+use Rattle.definition.specs.Links.{index}
+use Rattle.definition.specs.Codec.{participantOf}
+use Rattle.definition.specs.Layout.{Lent, cell, globalWords, participantWords, recordAt, sharedFrom, bits, tablesOf}
+use Rattle.definition.specs.Ranges.{bitWords}
+use Rattle.definition.specs.Rule.{asks, follows, sees}
+use Rattle.definition.specs.Internal.{rule}
+use Rattle.definition.specs.Step.{follow, ruleAt, takeStep, answerOf}
+use Rattle.definition.specs.Types.{slot, node}
+use Rattle.definition.specs.declared.Node.{Node}
+use Rattle.definition.specs.declared.Participant.{Participant}
+use Rattle.definition.specs.declared.Ask.{Ask}
+use Rattle.definition.specs.declared.Seen.{Seen}
+use Rattle.definition.specs.declared.After.{After}
+use Rattle.definition.specs.declared.Answer.{Answer}
+use Rattle.bits.specs.Bits.{wordsAt}
+use Rattle.bags.specs.Bags.{bagSeal, filled}
+use Rattle.words.specs.Words.{named, wordIn, leftGlobals, leftParticipants, leftNodes, Made}
+use Rattle.words.proofs.Laws.{length-left-nodes}
+use Rattle.settle.specs.Settle.{settledTokens}
+use Rattle.follow.specs.Follow.{Follows, Followed}
+use Rattle.step.specs.Steps.{Steps, Leaves, lent}
+use Rattle.step.proofs.Laws.{own, ask, after, left, size, asked-in, own-loaded, ask-is, after-is, follows-after, stepped-lent, stepped-tokens}
+
+-- what the callees promise
+pub record Chain (N M p : ℕ) (l : Lent) (o : Participant) (at k free : ℕ) (x : Ask) (seen : Seen) (g ps n : List ℕ) (seal : ℕ) (a : After) : Type 0 where
+  pub loaded : o ≡ participantOf (recordAt (cell participantWords (l .participants) p))
+  pub from : at ≡ globalWords + bitWords N
+  pub words : k ≡ bitWords M
+  pub first : free ≡ least M (bits k (wordsAt (l .globals) at))
+  pub asked : (y : Node) (z : Node → ℕ) → x ≡ asks (rule (slot p) y z o (o .place))
+  pub made : Made x (l .globals) (l .participants) (l .nodes) seen g ps n
+  pub sealed : seal ≡ bagSeal n (index (seen .value))
+  pub then : a ≡ follows (rule (slot p) (node free) (λ n. seal) o (o .place)) seen
+
+-- the calls before it may be made
+module _ (N M p : ℕ) (l : Lent) (f : List ℕ) (s : Steps N M p l f) where
+  pub row-ok : p * 21 + 21 ≤ length (l .participants)
+  row-ok = let below = s .below in rw (size N M p l (s .sound) (s .below) (s .present) .participants) (omega arith)
+
+  module _ (o : Participant) (loaded : o ≡ participantOf (recordAt (cell participantWords (l .participants) p))) (x : Ask)
+      (asked : (y : Node) (z : Node → ℕ) → x ≡ asks (rule (slot p) y z o (o .place))) where
+    pub perform-ok : wordIn (named x) (l .globals) (l .participants) (l .nodes)
+    perform-ok = rw (ask-is N M p l (s .sound) (s .below) (s .present) o loaded x asked) (asked-in N M p l (s .sound) (s .below) (s .present))
+
+    pub nodes-ok : (n : List ℕ) → n ≡ leftNodes x (l .globals) (l .participants) (l .nodes) → length n ≡ M * 3
+    nodes-ok n e = ap length e ∙ length-left-nodes x (l .globals) (l .participants) (l .nodes) perform-ok ∙ size N M p l (s .sound) (s .below) (s .present) .nodes
+
+module _ (N M p : ℕ) (l : Lent) (f : List ℕ) (s : Steps N M p l f) (o : Participant) (at k free : ℕ) (x : Ask) (seen : Seen) (g ps n : List ℕ) (seal : ℕ) (a : After)
+    (c : Chain N M p l o at k free x seen g ps n seal a) where
+  o-is : o ≡ own N M p l (s .sound) (s .below) (s .present)
+  o-is = own-loaded N M p l (s .sound) (s .below) (s .present) o (c .loaded)
+
+  x-is : x ≡ ask N M p l (s .sound) (s .below) (s .present)
+  x-is = ask-is N M p l (s .sound) (s .below) (s .present) o (c .loaded) x (c .asked)
+
+  globals-are : g ≡ left N M p l (s .sound) (s .below) (s .present) .globals
+  globals-are = c .made .globals ∙ ap (λ (y : Ask). leftGlobals y (l .globals) (l .participants) (l .nodes)) x-is
+
+  participants-are : ps ≡ left N M p l (s .sound) (s .below) (s .present) .participants
+  participants-are = c .made .participants ∙ ap (λ (y : Ask). leftParticipants y (l .globals) (l .participants) (l .nodes)) x-is
+
+  nodes-are : n ≡ left N M p l (s .sound) (s .below) (s .present) .nodes
+  nodes-are = c .made .nodes ∙ ap (λ (y : Ask). leftNodes y (l .globals) (l .participants) (l .nodes)) x-is
+
+  a-is : a ≡ after N M p l (s .sound) (s .below) (s .present)
+  a-is = after-is N M p l (s .sound) (s .below) (s .present) o (c .loaded) at k free seen seal a (c .from) (c .words) (c .first)
+      (c .made .seen ∙ ap (λ (y : Ask). sees y (sharedFrom (l .globals) (l .participants) (l .nodes))) x-is)
+      (c .sealed ∙ ap (λ (m : List ℕ). bagSeal m (index (seen .value))) nodes-are) (c .then)
+
+  -- `follow` may be called
+  pub may-follow : Follows N p (o .held) (o .share) a g ps n (l .held) (l .queued) f
+  may-follow = rw (o-is, a-is, globals-are, participants-are, nodes-are) (follows-after N M p l (s .sound) (s .below) (s .present) f (s .places))
+
+  answer-is : (r : Answer) → r ≡ answerOf (after N M p l (s .sound) (s .below) (s .present) .end) (length (settledTokens (after N M p l (s .sound) (s .below) (s .present) .work) (left N M p l (s .sound) (s .below) (s .present) .nodes) (l .queued)))
+      → r ≡ takeStep M p (tablesOf N M l) .answer
+  unfolding takeStep ruleAt follow
+  answer-is r h = h ∙ ap (λ (ts : List ℕ). answerOf (after N M p l (s .sound) (s .below) (s .present) .end) (length ts)) (stepped-tokens N M p l (s .sound) (s .below) (s .present))
+
+  -- and what it leaves is the definition's
+  pub leaves-step : (r : Answer) (g′ ps′ n′ h′ q′ f′ : List ℕ) → Followed N p (o .held) (o .share) a g ps n (l .held) (l .queued) f r g′ ps′ n′ h′ q′ f′
+      → ((j : ℕ) → getD g′ j 0 < 2 ^ 64) → Leaves N M (takeStep M p (tablesOf N M l)) f r (lent g′ ps′ n′ h′ q′) f′
+  leaves-step r g′ ps′ n′ h′ q′ f′ e fits =
+      let w : Followed N p (own N M p l (s .sound) (s .below) (s .present) .held) (own N M p l (s .sound) (s .below) (s .present) .share) (after N M p l (s .sound) (s .below) (s .present))
+      (left N M p l (s .sound) (s .below) (s .present) .globals) (left N M p l (s .sound) (s .below) (s .present) .participants) (left N M p l (s .sound) (s .below) (s .present) .nodes)
+      (l .held) (l .queued) f r g′ ps′ n′ h′ q′ f′ = rw (o-is, a-is, globals-are, participants-are, nodes-are) at e in
+      let t = stepped-tokens N M p l (s .sound) (s .below) (s .present) in
+      record {
+        answer = answer-is r (w .answer);
+        lent = (λ i. lent (w .globals i) (w .participants i) (w .nodes i) (w .held i) (w .queued i)) ∙ stepped-lent N M p l (s .sound) (s .below) (s .present) (λ j. rw (← w .globals) (fits j));
+        freed = w .freed ∙ ap (λ (ts : List ℕ). filled ts f) t;
+      }

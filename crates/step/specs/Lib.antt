@@ -1,0 +1,2 @@
+-- Definitions that the contracts of `step` cite.
+pub mod Steps
