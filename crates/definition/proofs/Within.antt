@@ -1,4 +1,4 @@
--- What it is for a place to be in range, as facts and no longer as tests, each way; and what follows: a place in range asks for words
+-- What it is for a place to be in range, as facts and no longer as tests; and what follows: a place in range asks for words
 -- within the tables, and the work after it names slots and nodes within them. So a step on tables in range stays inside them.
 -- Assumes nothing.
 use mathlib.Core.Path.{_≡_, refl}
