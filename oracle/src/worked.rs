@@ -315,13 +315,8 @@ fn counts_inside() -> Worked {
     w
 }
 
-fn registered_anew() -> Worked {
-    let mut w = Worked::new("a slot used again", "(not in the document) registering sets everything anew, the pin count too");
-    let (a, b) = (w.run.register(), w.run.register());
-    w.run.operation(PIN, b, 0);
-    w.run.operation(UNPIN, b, 0);
-    w.run.operation(RELEASE, b, 0);
-    w.expect("pins of the deleted slot", world::pins(b), 2);
+/// Participant a pins, and repins and flushes until the deleted slot b is freed; then b is registered again.
+fn taken_again(w: &mut Worked, a: usize, b: usize) {
     w.run.operation(PIN, a, 0);
     for _ in 0..3 {
         w.run.operation(REPIN, a, 0);
@@ -329,6 +324,16 @@ fn registered_anew() -> Worked {
     }
     let again = w.run.register();
     w.expect("slot taken again", again, b);
+}
+
+fn registered_anew() -> Worked {
+    let mut w = Worked::new("a slot used again", "(not in the document) registering sets everything anew, the pin count too");
+    let (a, b) = (w.run.register(), w.run.register());
+    w.run.operation(PIN, b, 0);
+    w.run.operation(UNPIN, b, 0);
+    w.run.operation(RELEASE, b, 0);
+    w.expect("pins of the deleted slot", world::pins(b), 2);
+    taken_again(&mut w, a, b);
     w.expect("its pins, guards, handles", (world::pins(b), world::guards(b), world::handles(b)), (0, 0, 1));
     let steps = w.run.operation(PIN, b, 0);
     let collects = steps.iter().any(|step| step.seen.is_some_and(|seen| seen.place == Place::AdvanceEpoch));
@@ -387,13 +392,7 @@ fn same_index_again() -> Worked {
     let seen = w.run.step(2).access.read;
     w.expect("head that C loads (slot 1 is 4)", seen, 4);
     w.run.operation(RELEASE, b, 0);
-    w.run.operation(PIN, a, 0);
-    for _ in 0..3 {
-        w.run.operation(REPIN, a, 0);
-        w.run.operation(FLUSH, a, 0);
-    }
-    let again = w.run.register();
-    w.expect("slot taken again", again, b);
+    taken_again(&mut w, a, b);
     w.run.step(2);
     let last = w.run.step(2);
     w.expect("C's exchange (3 is done)", last.access.kind, 3);

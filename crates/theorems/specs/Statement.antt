@@ -75,7 +75,7 @@ module _ (N M : ℕ) where
   waiting x t = sum N (λ q. times x (tokens (items (t .own q .held) (t .held q))) + waitsAt x (the q t .place))
       + sum M (λ n. times x (tokens (items (t .bag n .len) (t .bag n .deferreds))))
 
-  -- how often it was retired, and freed
+  -- how often it was retired
   unfoldable pub retired : ℕ → List Event → Tables → ℕ
   retired x [] t = 0
   retired x (v ∷ l) t = accepts x v (does N M v t .answer) + retired x l (does N M v t .tables)
@@ -90,7 +90,7 @@ module _ (N M : ℕ) where
   unchanged d [] t = true
   unchanged d (v ∷ l) t = eqb (does N M v t .tables .shared .word d) (t .shared .word d) && unchanged d l (does N M v t .tables)
 
-  -- a run of fewer than 2^62 advances, and the tables after it
+  -- a run of fewer than 2^62 advances
   abbrev pub Short : List Event → Type 0
   Short l = advances N M l (fresh N M) < 2 ^ 62
 
