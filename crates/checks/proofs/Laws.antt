@@ -6,21 +6,23 @@ use Prim.Native.Nat.{ℕ, _+_, _-_, _*_, _≤_, _<_}
 use native.Mathlib.Omega.{arith}
 use lib.Dec.{eqb, ltb, leb}
 use lib.ListN.{getD}
-use borrow.Author.Tests.{leb-true, leb-false, ltb-false, eqb-true, eqb-false, eq-eqb, ne-eqb, le-leb, lt-leb, not-true, not-false}
-use Rattle.definition.specs.Base.{branch, count, all, least}
+use borrow.Author.Tests.{leb-false, ltb-false, eqb-true, eqb-false, eq-eqb, ne-eqb, le-leb, lt-leb, not-true, not-false}
+use Rattle.definition.specs.Base.{branch, count, least}
 use Rattle.definition.specs.Bags.{maxObjects}
 use Rattle.definition.specs.Calls.{lacks, countFull, tokenAbove, needs}
 use Rattle.definition.specs.Layout.{Lent, cell, participantWords, sized, slotBits, nodeBits, sharedFrom, tablesOf}
 use Rattle.definition.specs.Links.{isTagged}
 use Rattle.definition.specs.Public.{Check, check, refusal, takesNode, stepChecks, callChecks, registerChecks, the, damaged, absent, running, room, missing}
-use Rattle.definition.specs.Ranges.{withinLimits, bitWords, isRest, itemIn, bitsIn, bagIn, recordIn, sharedIn, inRange}
+use Rattle.definition.specs.Ranges.{withinLimits, bitWords, isRest, bitsIn, inRange}
 use Rattle.definition.specs.Tables.{Tables}
 use Rattle.definition.specs.declared.Call.{Call}
 use Rattle.definition.specs.declared.Participant.{Participant}
 use Rattle.definition.specs.Codec.{participantOf}
-use Rattle.definition.proofs.Base.{both, all-at, count-least}
+use Rattle.definition.proofs.Base.{both, count-least}
 use Rattle.definition.proofs.Lists.{cell-in}
 use Rattle.bits.specs.Bits.{within}
+use Rattle.ranges.specs.Sound.{Sound}
+use Rattle.ranges.proofs.Facts.{facts, bag-len-small}
 use Rattle.checks.specs.declared.Checked.{Checked}
 use Rattle.checks.specs.Refusals.{checkedOf, sizedFirst, stepRefusal, callRefusal, registerRefusal, damageOf, stepRest, callRest, registerRest, row}
 
@@ -58,29 +60,23 @@ sure false h = absurd (false≢true (sym h))
 
 -- ---- lists that passed
 
--- all calls: the sizes are taken, each list has its length, and every number is in range
-pub record Whole (N M : ℕ) (l : Lent) : Type 0 where
-  pub limits : withinLimits N M ≡ true
-  pub lengths : sized N M l ≡ true
-  pub ranges : inRange N M (tablesOf N M l) ≡ true
-
 -- sizes, ranges, then other checks: none holds
 pub whole-rest : (N M : ℕ) (l : Lent) (cs : List Check) → sizedFirst N M l (refusal (check 1 (damaged N M (tablesOf N M l)) ∷ cs)) ≡ 0
-    → Whole N M l × (refusal cs ≡ 0)
+    → Sound N M l × (refusal cs ≡ 0)
 unfolding damaged
 whole-rest N M l cs e =
     let a = sizes-right N M l (refusal (check 1 (damaged N M (tablesOf N M l)) ∷ cs)) e in
     let s = both (withinLimits N M) (sized N M l) (a .0) in
     let d = none 1 (damaged N M (tablesOf N M l)) cs (λ z. absurd (omega arith)) (a .1) in
-    (record { limits = s .0; lengths = s .1; ranges = sure (inRange N M (tablesOf N M l)) (d .0) }, d .1)
+    (record { limits = s .0; lengths = s .1; range = sure (inRange N M (tablesOf N M l)) (d .0) }, d .1)
 
 -- the same from what the code finds of sizes and ranges, and the rest after it
-pub damage-none : (N M : ℕ) (l : Lent) → damageOf N M l ≡ 0 → Whole N M l
+pub damage-none : (N M : ℕ) (l : Lent) → damageOf N M l ≡ 0 → Sound N M l
 unfolding damageOf branch
 damage-none N M l e =
     let a = sizes-right N M l (branch (inRange N M (tablesOf N M l)) 0 1) e in
     let s = both (withinLimits N M) (sized N M l) (a .0) in
-    record { limits = s .0; lengths = s .1; ranges = by (inRange N M (tablesOf N M l)) (a .1) }
+    record { limits = s .0; lengths = s .1; range = by (inRange N M (tablesOf N M l)) (a .1) }
   where
     by : (b : Bool) → _≡_ {A = ℕ} (branch b 0 1) 0 → b ≡ true
     by true z = refl
@@ -101,7 +97,7 @@ pub damage-after : (N M : ℕ) (l : Lent) (cs : List Check) → damageOf N M l �
 unfolding damaged refusal branch
 damage-after N M l cs e =
     let w = damage-none N M l e in
-    rw (w .limits, w .lengths, w .ranges)
+    rw (w .limits, w .lengths, w .range)
 
 -- ---- a participant that is there
 
@@ -115,7 +111,7 @@ present N M p t e =
 
 -- a step may go on
 pub record StepFine (N M : ℕ) (l : Lent) (places p : ℕ) : Type 0 where
-  pub whole : Whole N M l
+  pub sound : Sound N M l
   pub places-enough : maxObjects ≤ places
   pub there : absent N M p (tablesOf N M l) ≡ false
   pub below : p < N
@@ -133,7 +129,7 @@ step-fine N M l places p e =
     let f = none 1 _ _ (λ z. absurd (omega arith)) (d .1) in
     let here = present N M p (tablesOf N M l) (c .0) in
     record {
-      whole = a .0;
+      sound = a .0;
       places-enough = ltb-false places maxObjects (b .0);
       there = c .0;
       below = here .0;
@@ -144,7 +140,7 @@ step-fine N M l places p e =
 
 -- a call may go on
 pub record CallFine (N M : ℕ) (l : Lent) (p : ℕ) (c : Call) : Type 0 where
-  pub whole : Whole N M l
+  pub sound : Sound N M l
   pub there : absent N M p (tablesOf N M l) ≡ false
   pub below : p < N
   pub taken : tablesOf N M l .slotFree p ≡ false
@@ -172,7 +168,7 @@ call-fine N M l p c e =
     let i = none 11 _ _ (λ z. absurd (omega arith)) (h .1) in
     let here = present N M p t (b .0) in
     record {
-      whole = a .0;
+      sound = a .0;
       there = b .0;
       below = here .0;
       taken = here .1;
@@ -185,7 +181,7 @@ call-fine N M l p c e =
 
 -- a registration may go on: the smallest free slot is one of N
 pub record RegisterFine (N M : ℕ) (l : Lent) : Type 0 where
-  pub whole : Whole N M l
+  pub sound : Sound N M l
   pub free : least N (tablesOf N M l .slotFree) < N
 
 pub register-fine : (N M : ℕ) (l : Lent) → registerRefusal N M l ≡ 0 → RegisterFine N M l
@@ -193,7 +189,7 @@ unfolding registerRefusal registerChecks
 register-fine N M l e =
     let a = whole-rest N M l _ e in
     let b = none 10 _ _ (λ z. absurd (omega arith)) (a .1) in
-    record { whole = a .0; free = count-least N (tablesOf N M l .slotFree) (eqb-false _ _ (b .0)) }
+    record { sound = a .0; free = count-least N (tablesOf N M l .slotFree) (eqb-false _ _ (b .0)) }
 
 -- fine is no refusal
 pub fine-is : (k : ℕ) → Checked.Fine ≡ checkedOf k → k ≡ 0
@@ -220,39 +216,18 @@ damage-ranges N M l b w r e h s t = t ∙ rw (sym e ∙ not-false b h, s)
 pub lengths-right : (N M : ℕ) (l : Lent) (b : Bool) → b ≡ (withinLimits N M && sized N M l) → not b ≡ false → sized N M l ≡ true
 lengths-right N M l b e h = both (withinLimits N M) (sized N M l) (sym e ∙ not-false b h) .1
 
--- the parts of ranges that the counts and the needs rest on
-record Parts (N M : ℕ) (t : Tables) : Type 0 where
-  pub slots : bitsIn N M N (t .slotFree) ≡ true
-  pub nodes : bitsIn N M M (t .nodeFree) ≡ true
-  pub bags : all N (λ i. bagIn N M (t .own i .held) (t .held i)) ≡ true
-
-range-parts : (N M : ℕ) (t : Tables) → inRange N M t ≡ true → Parts N M t
-unfolding inRange
-range-parts N M t e =
-    let a = both (sharedIn N M (t .shared) && leb (t .aside) M && all N (λ i. recordIn N M (t .aside) (t .own i)) && bitsIn N M N (t .slotFree)
-    && bitsIn N M M (t .nodeFree) && all N (λ i. bagIn N M (t .own i .held) (t .held i))) (all M (λ n. bagIn N M (t .bag n .len) (t .bag n .deferreds))) e in
-    let b = both (sharedIn N M (t .shared) && leb (t .aside) M && all N (λ i. recordIn N M (t .aside) (t .own i)) && bitsIn N M N (t .slotFree)
-    && bitsIn N M M (t .nodeFree)) (all N (λ i. bagIn N M (t .own i .held) (t .held i))) (a .0) in
-    let c = both (sharedIn N M (t .shared) && leb (t .aside) M && all N (λ i. recordIn N M (t .aside) (t .own i)) && bitsIn N M N (t .slotFree))
-    (bitsIn N M M (t .nodeFree)) (b .0) in
-    let d = both (sharedIn N M (t .shared) && leb (t .aside) M && all N (λ i. recordIn N M (t .aside) (t .own i))) (bitsIn N M N (t .slotFree)) (c .0) in
-    record { slots = d .1; nodes = c .1; bags = b .1 }
-
-module _ (N M : ℕ) (l : Lent) (w : Whole N M l) where
+module _ (N M : ℕ) (l : Lent) (w : Sound N M l) where
   pub slots-within : within (bitWords N) N (slotBits N (l .globals)) ≡ true
   unfolding tablesOf bitsIn
-  slots-within = range-parts N M (tablesOf N M l) (w .ranges) .slots
+  slots-within = facts N M (tablesOf N M l) (w .range) .slots
 
   pub nodes-within : within (bitWords M) M (nodeBits N M (l .globals)) ≡ true
   unfolding tablesOf bitsIn
-  nodes-within = range-parts N M (tablesOf N M l) (w .ranges) .nodes
+  nodes-within = facts N M (tablesOf N M l) (w .range) .nodes
 
   pub held-within : (p : ℕ) → p < N → row (l .participants) p .held ≤ 64
-  unfolding tablesOf bagIn maxObjects participantOf
-  held-within p h =
-      let t = tablesOf N M l in
-      let bag = all-at N (λ i. bagIn N M (t .own i .held) (t .held i)) p (range-parts N M t (w .ranges) .bags) h in
-      leb-true (t .own p .held) 64 (both (leb (t .own p .held) 64) (all (t .own p .held) (λ j. itemIn N M (t .held p j))) bag .0)
+  unfolding tablesOf participantOf
+  held-within p h = let t = tablesOf N M l in bag-len-small N M (t .own p .held) (t .held p) (facts N M t (w .range) .held p h)
 
 -- a participant's link is the second word of its row
 pub next-cell : (ps : List ℕ) (p : ℕ) → cell participantWords ps p 1 ≡ getD ps (p * 21 + 1) 0

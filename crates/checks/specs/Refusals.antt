@@ -1,6 +1,6 @@
 -- The refusals of the public calls on lent lists, as numbers: the number of the first check that holds, and 0 where none does. The checks
 -- and their order are the definition's (specs/Public); a list that has not its size is refused before all of them. Assumes nothing.
-use mathlib.Core.Bool.{Bool, _&&_, not}
+use mathlib.Core.Bool.{_&&_, not}
 use mathlib.Core.List.{List, [], _∷_}
 use Prim.Native.Nat.{ℕ}
 use lib.Dec.{eqb, ltb}
@@ -52,10 +52,6 @@ module _ (N M : ℕ) where
 
   abbrev pub registerRest : Tables → List Check
   registerRest t = check 10 (eqb (count N (t .slotFree)) 0) ∷ []
-
--- five lists as lent
-abbrev pub lists : (globals participants nodes held queued : List ℕ) → Lent
-lists g p n h q = record { globals = g; participants = p; nodes = n; held = h; queued = q }
 
 -- participant p, as its row says
 abbrev pub row : List ℕ → ℕ → Participant

@@ -27,13 +27,13 @@ ghost use Prim.Native.Nat.{ℕ, _+_, _-_, _*_, _≤_, _<_};
 ghost use lib.Dec.{eqb};
 ghost use lib.ListN.{length};
 ghost use Rattle.definition.specs.Base.{branch, count};
-ghost use Rattle.definition.specs.Layout.{cell, participantWords, slotBits, nodeBits, tablesOf};
+ghost use Rattle.definition.specs.Layout.{lent, cell, participantWords, slotBits, nodeBits, tablesOf};
 ghost use Rattle.definition.specs.Links.{isTagged};
 ghost use Rattle.definition.specs.Public.{check, refusal};
 ghost use Rattle.definition.specs.Ranges.{bitWords};
 ghost use Rattle.bits.specs.Bits.{within};
 ghost use Rattle.checks.specs.Refusals.{checkedOf, damageOf, stepRefusal, callRefusal, registerRefusal};
-ghost use Rattle.checks.specs.Refusals.{stepRest, callRest, lists, row};
+ghost use Rattle.checks.specs.Refusals.{stepRest, callRest, row};
 
 // Words of a participant's row.
 const PARTICIPANT_WORDS: usize = 21;
@@ -152,7 +152,7 @@ fn step_at(
 ) -> u64
     requires { ⌜ (m ≤ 4096) × ((5 + bitWords n + bitWords m ≤ length (now globals)) × (n * 21 ≤ length (now participants))) ⌝ }
     requires { ⌜ within (bitWords m) m (nodeBits n m (now globals)) ≡ true ⌝ }
-    ensures { λ r. ⌜ ((nodes held queued : List ℕ) → r ≡ refusal (stepRest n m places p (tablesOf n m (lists (now (globals .entry)) (now (participants .entry)) nodes held queued)))) ⌝ }
+    ensures { λ r. ⌜ ((nodes held queued : List ℕ) → r ≡ refusal (stepRest n m places p (tablesOf n m (lent (now (globals .entry)) (now (participants .entry)) nodes held queued)))) ⌝ }
 {
     let short = places < MAX_OBJECTS;
     if n <= p {
@@ -177,7 +177,7 @@ fn call_at(n: usize, m: usize, globals: &[u64], participants: &[u64], p: usize, 
     requires { ⌜ (n ≤ 4096) × ((m ≤ 4096) × ((5 + bitWords n + bitWords m ≤ length (now globals)) × (n * 21 ≤ length (now participants)))) ⌝ }
     requires { ⌜ within (bitWords m) m (nodeBits n m (now globals)) ≡ true ⌝ }
     requires { ⌜ (p < n → row (now participants) p .held ≤ 64) ⌝ }
-    ensures { λ r. ⌜ ((nodes held queued : List ℕ) → r ≡ refusal (callRest n m p c (tablesOf n m (lists (now (globals .entry)) (now (participants .entry)) nodes held queued)))) ⌝ }
+    ensures { λ r. ⌜ ((nodes held queued : List ℕ) → r ≡ refusal (callRest n m p c (tablesOf n m (lent (now (globals .entry)) (now (participants .entry)) nodes held queued)))) ⌝ }
 {
     if n <= p {
         return call_refusal(true, false, 0, false, false, false);
@@ -206,7 +206,7 @@ fn damage(
     held: &[u64],
     queued: &[u64],
 ) -> u64
-    ensures { λ r. ⌜ r ≡ damageOf n m (lists (now (globals .entry)) (now (participants .entry)) (now (nodes .entry)) (now (held .entry)) (now (queued .entry))) ⌝ }
+    ensures { λ r. ⌜ r ≡ damageOf n m (lent (now (globals .entry)) (now (participants .entry)) (now (nodes .entry)) (now (held .entry)) (now (queued .entry))) ⌝ }
 {
     let taken = sizes(n, m, globals, participants, nodes, held, queued);
     if !taken {
@@ -228,7 +228,7 @@ pub fn check_register(
     held: &[u64],
     queued: &[u64],
 ) -> Checked
-    ensures { λ r. ⌜ r ≡ checkedOf (registerRefusal n m (lists (now (globals .entry)) (now (participants .entry)) (now (nodes .entry)) (now (held .entry)) (now (queued .entry)))) ⌝ }
+    ensures { λ r. ⌜ r ≡ checkedOf (registerRefusal n m (lent (now (globals .entry)) (now (participants .entry)) (now (nodes .entry)) (now (held .entry)) (now (queued .entry)))) ⌝ }
 {
     let first = damage(n, m, globals, participants, nodes, held, queued);
     if first != 0 {
@@ -250,7 +250,7 @@ pub fn check_call(
     p: usize,
     c: Call,
 ) -> Checked
-    ensures { λ r. ⌜ r ≡ checkedOf (callRefusal n m (lists (now (globals .entry)) (now (participants .entry)) (now (nodes .entry)) (now (held .entry)) (now (queued .entry))) p c) ⌝ }
+    ensures { λ r. ⌜ r ≡ checkedOf (callRefusal n m (lent (now (globals .entry)) (now (participants .entry)) (now (nodes .entry)) (now (held .entry)) (now (queued .entry))) p c) ⌝ }
 {
     let first = damage(n, m, globals, participants, nodes, held, queued);
     if first != 0 {
@@ -272,7 +272,7 @@ pub fn check_step(
     p: usize,
     places: usize,
 ) -> Checked
-    ensures { λ r. ⌜ r ≡ checkedOf (stepRefusal n m (lists (now (globals .entry)) (now (participants .entry)) (now (nodes .entry)) (now (held .entry)) (now (queued .entry))) places p) ⌝ }
+    ensures { λ r. ⌜ r ≡ checkedOf (stepRefusal n m (lent (now (globals .entry)) (now (participants .entry)) (now (nodes .entry)) (now (held .entry)) (now (queued .entry))) places p) ⌝ }
 {
     let first = damage(n, m, globals, participants, nodes, held, queued);
     if first != 0 {

@@ -127,6 +127,12 @@ least-first (suc n) f i h = go (ltb (least n f) n) refl (f n) refl h (least-firs
     go false e false m lt below =
         same? i n (λ s. rw s m) (λ ne. below (omega (arith, ltb-false (least n f) n e)))
 
+-- no more are marked than there are
+pub count-le : (n : ℕ) (f : Tab Bool) → count n f ≤ n
+unfolding count sum
+count-le zero f = omega arith
+count-le (suc n) f = branch-ind (λ (k : ℕ). sum n (λ i. branch (f i) 1 0) + k ≤ suc n) (f n) (λ _. omega (arith, count-le n f)) (λ _. omega (arith, count-le n f))
+
 -- nothing is marked exactly where nothing counts
 pub count-none : (n : ℕ) (f : Tab Bool) → ((i : ℕ) → i < n → f i ≡ false) → count n f ≡ 0
 unfolding count sum branch

@@ -60,11 +60,11 @@ module _ (N M : ℕ) where
   unfoldable pub PlacedIn : After → Type 0
   PlacedIn a = PlaceIn N M (a .participant .place)
 
-  on-kept : (pl : Place) (o : Participant) → PlaceIn N M pl → PlacedIn (on pl o)
+  pub on-kept : (pl : Place) (o : Participant) → PlaceIn N M pl → PlacedIn (on pl o)
   unfolding PlacedIn on
   on-kept pl o h = h
 
-  done-kept : (v : ℕ) (o : Participant) → PlacedIn (done v o)
+  pub done-kept : (v : ℕ) (o : Participant) → PlacedIn (done v o)
   unfolding PlacedIn done PlaceIn
   done-kept v o = tt
 
@@ -72,7 +72,7 @@ module _ (N M : ℕ) where
   unfolding PlacedIn also
   also-kept w a h = h
 
-  pick-kept : (b : Bool) (x y : After) → PlacedIn x → PlacedIn y → PlacedIn (branch b x y)
+  pub pick-kept : (b : Bool) (x y : After) → PlacedIn x → PlacedIn y → PlacedIn (branch b x y)
   pick-kept b x y h k = branch-ind PlacedIn b (λ _. h) (λ _. k)
 
   collected-kept : (k : Owner) (o : Participant) → PlacedIn (collected k o)
@@ -81,7 +81,7 @@ module _ (N M : ℕ) where
   collected-kept Owner.Flush o = done-kept 0 o
   collected-kept Owner.Finalize o = on-kept (Place.Push Then.Finalize PushAt.Epoch) o (tt, tt)
 
-  finalize-kept : (o : Participant) → PlacedIn (finalize o)
+  pub finalize-kept : (o : Participant) → PlacedIn (finalize o)
   unfolding finalize PlaceIn
   finalize-kept o = on-kept (Place.PinEpoch Owner.Finalize) _ tt
 
@@ -105,7 +105,7 @@ module _ (N M : ℕ) where
   placed-kept (Deferring.Slot t c succ) o h = also-kept _ _ (walk-kept t (c .pred) succ o (h .0 .0) (h .1))
   placed-kept (Deferring.Node p head next) o h = also-kept _ _ (pops-kept (p .owner) (p .epoch) (p .left - 1) o (let k = h .0 .1 in omega arith))
 
-  defer-kept : (d : Deferring) (o : Participant) → ThenIn N M (Then.Defer d) → PlacedIn (defer d o)
+  pub defer-kept : (d : Deferring) (o : Participant) → ThenIn N M (Then.Defer d) → PlacedIn (defer d o)
   unfolding defer PlaceIn PushIn
   defer-kept d o h = pick-kept _ _ _ (placed-kept d _ h) (on-kept (Place.Push (Then.Defer d) PushAt.Epoch) o (h, tt))
 
@@ -181,11 +181,11 @@ unfoldable pub ShareLe : ℕ → After → Type 0
 ShareLe s a = a .participant .share ≤ s
 
 module _ (s : ℕ) where
-  on-share : (pl : Place) (o : Participant) → o .share ≤ s → ShareLe s (on pl o)
+  pub on-share : (pl : Place) (o : Participant) → o .share ≤ s → ShareLe s (on pl o)
   unfolding ShareLe on
   on-share pl o h = h
 
-  done-share : (v : ℕ) (o : Participant) → ShareLe s (done v o)
+  pub done-share : (v : ℕ) (o : Participant) → ShareLe s (done v o)
   unfolding ShareLe done
   done-share v o = omega arith
 
@@ -193,7 +193,7 @@ module _ (s : ℕ) where
   unfolding ShareLe also
   also-share w a h = h
 
-  pick-share : (b : Bool) (x y : After) → ShareLe s x → ShareLe s y → ShareLe s (branch b x y)
+  pub pick-share : (b : Bool) (x y : After) → ShareLe s x → ShareLe s y → ShareLe s (branch b x y)
   pick-share b x y h k = branch-ind (ShareLe s) b (λ _. h) (λ _. k)
 
   collected-share : (k : Owner) (o : Participant) → o .share ≤ s → ShareLe s (collected k o)
@@ -202,7 +202,7 @@ module _ (s : ℕ) where
   collected-share Owner.Flush o h = done-share 0 o
   collected-share Owner.Finalize o h = on-share _ o h
 
-  finalize-share : (o : Participant) → o .share ≤ s → ShareLe s (finalize o)
+  pub finalize-share : (o : Participant) → o .share ≤ s → ShareLe s (finalize o)
   unfolding finalize
   finalize-share o h = on-share _ _ h
 
@@ -225,7 +225,7 @@ module _ (s : ℕ) where
   placed-share (Deferring.Slot t c succ) o h = also-share _ _ (walk-share t (c .pred) succ o h)
   placed-share (Deferring.Node p head next) o h = also-share _ _ (pops-share (p .owner) (p .epoch) (p .left - 1) o h)
 
-  defer-share : (d : Deferring) (o : Participant) → o .share ≤ s → ShareLe s (defer d o)
+  pub defer-share : (d : Deferring) (o : Participant) → o .share ≤ s → ShareLe s (defer d o)
   unfolding defer
   defer-share d o h = pick-share _ _ _ (placed-share d _ h) (on-share _ o h)
 

@@ -4,4 +4,5 @@ pub mod Lists
 pub mod Needs
 pub mod Within
 pub mod Kept
+pub mod Opens
 pub mod Worked

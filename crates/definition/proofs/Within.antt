@@ -251,11 +251,11 @@ module _ (N M : ℕ) where
   AfterIn a = WorkIn (a .work)
 
   -- what follows names no more than what goes in: one law for each of the functions of specs/Flow
-  on-in : (pl : Place) (o : Participant) → AfterIn (on pl o)
+  pub on-in : (pl : Place) (o : Participant) → AfterIn (on pl o)
   unfolding AfterIn WorkIn on
   on-in pl o = tt
 
-  done-in : (v : ℕ) (o : Participant) → AfterIn (done v o)
+  pub done-in : (v : ℕ) (o : Participant) → AfterIn (done v o)
   unfolding AfterIn WorkIn done
   done-in v o = tt
 
@@ -263,7 +263,7 @@ module _ (N M : ℕ) where
   unfolding AfterIn also
   also-in w a h = h
 
-  pick-in : (b : Bool) (x y : After) → AfterIn x → AfterIn y → AfterIn (branch b x y)
+  pub pick-in : (b : Bool) (x y : After) → AfterIn x → AfterIn y → AfterIn (branch b x y)
   pick-in b x y h k = branch-ind AfterIn b (λ _. h) (λ _. k)
 
   collected-in : (k : Owner) (o : Participant) → AfterIn (collected k o)
@@ -272,7 +272,7 @@ module _ (N M : ℕ) where
   collected-in Owner.Flush o = done-in 0 o
   collected-in Owner.Finalize o = on-in (Place.Push Then.Finalize PushAt.Epoch) o
 
-  finalize-in : (o : Participant) → AfterIn (finalize o)
+  pub finalize-in : (o : Participant) → AfterIn (finalize o)
   unfolding finalize
   finalize-in o = on-in _ _
 
@@ -295,7 +295,7 @@ module _ (N M : ℕ) where
   placed-in (Deferring.Slot t c succ) o h = also-in _ _ (h .0 .1)
   placed-in (Deferring.Node p head next) o h = also-in _ _ (h .1)
 
-  defer-in : (d : Deferring) (o : Participant) → ThenIn (Then.Defer d) → AfterIn (defer d o)
+  pub defer-in : (d : Deferring) (o : Participant) → ThenIn (Then.Defer d) → AfterIn (defer d o)
   unfolding defer
   defer-in d o h = pick-in _ _ _ (placed-in d _ h) (on-in _ _)
 

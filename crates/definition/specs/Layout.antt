@@ -20,6 +20,9 @@ pub record Lent : Type 0 where
   pub held : List ℕ
   pub queued : List ℕ
 
+abbrev pub lent : (globals participants nodes held queued : List ℕ) → Lent
+lent g p n h q = record { globals = g; participants = p; nodes = n; held = h; queued = q }
+
 -- words before the free bits of `globals`; words of a participant, of a node
 unfoldable pub globalWords : ℕ
 globalWords = 5

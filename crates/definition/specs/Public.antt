@@ -15,7 +15,7 @@ use Rattle.definition.specs.Codec.{recordOf, participantOf, placeOf}
 use Rattle.definition.specs.Step.{Out, follow, takeStep}
 use Rattle.definition.specs.Calls.{lacks, countFull, tokenAbove, needs, opens}
 use Rattle.definition.specs.Ranges.{withinLimits, isRest, inRange, fresh}
-use Rattle.definition.specs.Layout.{Lent, sized, tablesOf, lentOf}
+use Rattle.definition.specs.Layout.{Lent, lent, sized, tablesOf, lentOf}
 use Rattle.definition.specs.Types.{Then, RegisterAt, PushAt, Place, Participant, Word, Call, Answer, slot}
 
 -- a refusal: a number, with the case in which it is given
@@ -125,6 +125,9 @@ pub record Outcome : Type 0 where
   pub answer : Answer
   pub lent : Lent
   pub freed : List ℕ
+
+abbrev pub outcome : Answer → (globals participants nodes held queued freed : List ℕ) → Outcome
+outcome r g p n h q f = record { answer = r; lent = lent g p n h q; freed = f }
 
 module _ (N M : ℕ) (l : Lent) (places : List ℕ) where
   abbrev pub kept : ℕ → Outcome

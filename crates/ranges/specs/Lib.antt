@@ -1,2 +1,3 @@
 -- What the promises of `ranges` cite beside the definition.
 pub mod Rows
+pub mod Sound

@@ -10,8 +10,6 @@ use lib.Seq.{take-at}
 use Rattle.definition.specs.Base.{branch}
 use Rattle.definition.specs.Bags.{maxObjects}
 use Rattle.definition.specs.Tables.{Tables}
-use Rattle.definition.specs.Flow.{on, done, also, finalize, placed, defer}
-use Rattle.definition.specs.Calls.{begins, opens}
 use Rattle.definition.specs.Step.{Out, freedBy, answerOf, follow, takeStep}
 use Rattle.definition.specs.Ranges.{withinLimits, maxParticipants, maxNodes}
 use Rattle.definition.specs.Layout.{Lent, sized, tablesOf}
@@ -21,9 +19,9 @@ use Rattle.definition.specs.Schedule.{whole, actionOf, tokenIn, played, line}
 use Rattle.definition.specs.declared.Answer.{Answer}
 use Rattle.definition.specs.declared.Call.{Call}
 use Rattle.definition.specs.declared.End.{End}
-use Rattle.definition.specs.declared.Participant.{Participant}
 use Rattle.definition.specs.declared.After.{After}
 use Rattle.definition.proofs.Base.{branch-ind}
+use Rattle.definition.proofs.Opens.{opens-none}
 use Rattle.script.specs.Script.{Action, actionFor, actionIn, freedCount}
 use Rattle.script.specs.Played.{keeping, acts, lineFrom, linesOn}
 use Rattle.script.proofs.Laws.{line-is}
@@ -42,23 +40,10 @@ unfolding follow
 counted-follow p a t = counted-end (a .end) (length (freedBy (a .work) t))
 
 module _ (t : Tables) where
-  -- what a call begins frees nothing
-  abbrev Frees-none : After → Type 0
-  Frees-none a = freedBy (a .work) t ≡ []
-
-  begins-none : (c : Call) (o : Participant) → Frees-none (begins c o)
-  unfolding begins on done also finalize placed defer freedBy
-  begins-none Call.Acquire o = refl
-  begins-none Call.Release o = branch-ind Frees-none _ (λ _. refl) (λ _. refl)
-  begins-none Call.Pin o = branch-ind Frees-none _ (λ _. refl) (λ _. refl)
-  begins-none Call.Unpin o = branch-ind Frees-none _ (λ _. refl) (λ _. refl)
-  begins-none Call.Repin o = branch-ind Frees-none _ (λ _. refl) (λ _. refl)
-  begins-none (Call.Defer token) o = branch-ind Frees-none _ (λ _. refl) (λ _. refl)
-  begins-none Call.Flush o = branch-ind Frees-none _ (λ _. refl) (λ _. refl)
-
+  -- only a step frees
   call-none : (p : ℕ) (c : Call) → call 32 128 p c t .freed ≡ []
-  unfolding call unless follow opens
-  call-none p c = branch-ind (λ (x : Out). x .freed ≡ []) _ (λ _. begins-none c _) (λ _. refl)
+  unfolding call unless follow
+  call-none p c = branch-ind (λ (x : Out). x .freed ≡ []) _ (λ _. opens-none t 32 c _) (λ _. refl)
 
   register-none : register 32 128 t .freed ≡ []
   unfolding register unless enrolled

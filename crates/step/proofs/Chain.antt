@@ -8,11 +8,11 @@ use lib.ListN.{length, getD}
 use Rattle.definition.specs.Base.{least}
 use Rattle.definition.specs.Links.{index}
 use Rattle.definition.specs.Codec.{participantOf}
-use Rattle.definition.specs.Layout.{Lent, cell, globalWords, participantWords, recordAt, sharedFrom, bits, tablesOf}
+use Rattle.definition.specs.Layout.{Lent, lent, cell, globalWords, participantWords, recordAt, sharedFrom, bits, tablesOf}
 use Rattle.definition.specs.Ranges.{bitWords}
 use Rattle.definition.specs.Rule.{asks, follows, sees}
 use Rattle.definition.specs.Internal.{rule}
-use Rattle.definition.specs.Step.{follow, ruleAt, takeStep, answerOf}
+use Rattle.definition.specs.Step.{takeStep}
 use Rattle.definition.specs.Types.{slot, node}
 use Rattle.definition.specs.declared.Node.{Node}
 use Rattle.definition.specs.declared.Participant.{Participant}
@@ -21,13 +21,13 @@ use Rattle.definition.specs.declared.Seen.{Seen}
 use Rattle.definition.specs.declared.After.{After}
 use Rattle.definition.specs.declared.Answer.{Answer}
 use Rattle.bits.specs.Bits.{wordsAt}
-use Rattle.bags.specs.Bags.{bagSeal, filled}
+use Rattle.bags.specs.Bags.{bagSeal}
 use Rattle.words.specs.Words.{named, wordIn, leftGlobals, leftParticipants, leftNodes, Made}
 use Rattle.words.proofs.Laws.{length-left-nodes}
-use Rattle.settle.specs.Settle.{settledTokens}
 use Rattle.follow.specs.Follow.{Follows, Followed}
-use Rattle.step.specs.Steps.{Steps, Leaves, lent}
-use Rattle.step.proofs.Laws.{own, ask, after, left, size, asked-in, own-loaded, ask-is, after-is, follows-after, stepped-lent, stepped-tokens}
+use Rattle.step.specs.Steps.{Steps, Leaves}
+use Rattle.step.proofs.Laws.{own, ask, after, left, size, asked-in, own-loaded, ask-is, after-is, carries, step-is}
+use Rattle.step.proofs.Carry.{may-carry, carried-leaves}
 
 -- what the callees promise
 pub record Chain (N M p : ℕ) (l : Lent) (o : Participant) (at k free : ℕ) (x : Ask) (seen : Seen) (g ps n : List ℕ) (seal : ℕ) (a : After) : Type 0 where
@@ -77,23 +77,12 @@ module _ (N M p : ℕ) (l : Lent) (f : List ℕ) (s : Steps N M p l f) (o : Part
 
   -- `follow` may be called
   pub may-follow : Follows N p (o .held) (o .share) a g ps n (l .held) (l .queued) f
-  may-follow = rw (o-is, a-is, globals-are, participants-are, nodes-are) (follows-after N M p l (s .sound) (s .below) (s .present) f (s .places))
-
-  answer-is : (r : Answer) → r ≡ answerOf (after N M p l (s .sound) (s .below) (s .present) .end) (length (settledTokens (after N M p l (s .sound) (s .below) (s .present) .work) (left N M p l (s .sound) (s .below) (s .present) .nodes) (l .queued)))
-      → r ≡ takeStep M p (tablesOf N M l) .answer
-  unfolding takeStep ruleAt follow
-  answer-is r h = h ∙ ap (λ (ts : List ℕ). answerOf (after N M p l (s .sound) (s .below) (s .present) .end) (length ts)) (stepped-tokens N M p l (s .sound) (s .below) (s .present))
+  may-follow = rw (o-is, a-is, globals-are, participants-are, nodes-are) (may-carry N M p _ _ _ (carries N M p l (s .sound) (s .below) (s .present)) f (s .places))
 
   -- and what it leaves is the definition's
   pub leaves-step : (r : Answer) (g′ ps′ n′ h′ q′ f′ : List ℕ) → Followed N p (o .held) (o .share) a g ps n (l .held) (l .queued) f r g′ ps′ n′ h′ q′ f′
       → ((j : ℕ) → getD g′ j 0 < 2 ^ 64) → Leaves N M (takeStep M p (tablesOf N M l)) f r (lent g′ ps′ n′ h′ q′) f′
   leaves-step r g′ ps′ n′ h′ q′ f′ e fits =
-      let w : Followed N p (own N M p l (s .sound) (s .below) (s .present) .held) (own N M p l (s .sound) (s .below) (s .present) .share) (after N M p l (s .sound) (s .below) (s .present))
-      (left N M p l (s .sound) (s .below) (s .present) .globals) (left N M p l (s .sound) (s .below) (s .present) .participants) (left N M p l (s .sound) (s .below) (s .present) .nodes)
-      (l .held) (l .queued) f r g′ ps′ n′ h′ q′ f′ = rw (o-is, a-is, globals-are, participants-are, nodes-are) at e in
-      let t = stepped-tokens N M p l (s .sound) (s .below) (s .present) in
-      record {
-        answer = answer-is r (w .answer);
-        lent = (λ i. lent (w .globals i) (w .participants i) (w .nodes i) (w .held i) (w .queued i)) ∙ stepped-lent N M p l (s .sound) (s .below) (s .present) (λ j. rw (← w .globals) (fits j));
-        freed = w .freed ∙ ap (λ (ts : List ℕ). filled ts f) t;
-      }
+      rw (← step-is N M p l (s .sound) (s .below) (s .present))
+      (carried-leaves N M p _ _ _ (carries N M p l (s .sound) (s .below) (s .present)) f r g′ ps′ n′ h′ q′ f′
+      (rw (o-is, a-is, globals-are, participants-are, nodes-are) at e) fits)

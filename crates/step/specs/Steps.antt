@@ -1,25 +1,15 @@
 -- A step on the lent lists: what must have been shown of them before it is made, and that what it leaves is the definition's. Assumes nothing.
 use mathlib.Core.Path.{_≡_}
-use mathlib.Core.Bool.{true, false}
+use mathlib.Core.Bool.{false}
 use mathlib.Core.List.{List}
 use Prim.Native.Nat.{ℕ, _≤_, _<_}
 use lib.ListN.{length}
-use Rattle.definition.specs.Layout.{Lent, sized, tablesOf, lentOf}
-use Rattle.definition.specs.Ranges.{withinLimits, inRange}
+use Rattle.definition.specs.Layout.{Lent, tablesOf, lentOf}
 use Rattle.definition.specs.Public.{missing}
 use Rattle.definition.specs.Step.{Out}
 use Rattle.definition.specs.declared.Answer.{Answer}
 use Rattle.bags.specs.Bags.{filled}
-
--- five lists as the lent ones
-abbrev pub lent : (globals participants nodes held queued : List ℕ) → Lent
-lent g p n h q = record { globals = g; participants = p; nodes = n; held = h; queued = q }
-
--- the sizes are taken and no stored number is outside its range
-pub record Sound (N M : ℕ) (l : Lent) : Type 0 where
-  pub limits : withinLimits N M ≡ true
-  pub lengths : sized N M l ≡ true
-  pub range : inRange N M (tablesOf N M l) ≡ true
+use Rattle.ranges.specs.Sound.{Sound}
 
 -- a step of participant p passes every check: there is a node where it must take one, and a place for every token of a bag
 pub record Steps (N M p : ℕ) (l : Lent) (f : List ℕ) : Type 0 where

@@ -17,11 +17,11 @@ use words::perform;
 ghost use mathlib.Core.Path.{_≡_};
 ghost use Prim.Native.Nat.{_*_};
 ghost use lib.ListN.{length};
-ghost use Rattle.definition.specs.Layout.{tablesOf};
+ghost use Rattle.definition.specs.Layout.{lent, tablesOf};
 ghost use Rattle.definition.specs.Links.{index};
 ghost use Rattle.definition.specs.Step.{takeStep};
 ghost use Rattle.bags.specs.Bags.{bagSeal};
-ghost use Rattle.step.specs.Steps.{lent, Steps, Leaves};
+ghost use Rattle.step.specs.Steps.{Steps, Leaves};
 
 // Returns the seal of the bag in the node that a word names, of `m` nodes. Where it names none there is no seal to look at: 0.
 fn seal_of(nodes: &[u64], m: usize, value: u64) -> u64

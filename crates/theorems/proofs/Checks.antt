@@ -210,7 +210,7 @@ module _ (N M : ℕ) (t : Tables) (g : Ghost) (inv : Inv N M (view t) g) (st : S
   register-checks e = other 10 (eqb (count N (t .slotFree)) 0) _ (λ z. omega arith) (λ _. none-left) (sym (skips 1 (damaged N M t) _ (never-damaged N M t g inv st)) ∙ e)
 
 -- an answer that is no refusal, and a refusal of another number
-answers : (e : End) (k r : ℕ) → answerOf e k ≢ Answer.Refused r
+pub answers : (e : End) (k r : ℕ) → answerOf e k ≢ Answer.Refused r
 unfolding answerOf
 answers End.GoesOn k r e = let z : _≡_ {A = ℕ} 0 1 = cc in omega arith
 answers (End.EndsWith v) k r e = let z : _≡_ {A = ℕ} 0 1 = cc in omega arith
@@ -220,7 +220,7 @@ more-answers : (k r : ℕ) → Answer.More k ≢ Answer.Refused r
 more-answers k r e = let z : _≡_ {A = ℕ} 0 1 = cc in omega arith
 
 -- a refusal has one number
-refused-is : (n r : ℕ) → Answer.Refused n ≡ Answer.Refused r → n ≡ r
+pub refused-is : (n r : ℕ) → Answer.Refused n ≡ Answer.Refused r → n ≡ r
 refused-is n r e = cc
 
 -- what is answered where the checks let it through

@@ -17,8 +17,8 @@ use Rattle.definition.specs.Ranges.{fresh}
 use Rattle.definition.specs.Step.{Out}
 use Rattle.definition.specs.Public.{enrolled}
 use Rattle.definition.proofs.Base.{same?, put-same, put-other}
-use Rattle.theorems.specs.Runs.{Event, does, after, advances}
-use Rattle.theorems.specs.Statement.{times, retired, unchanged}
+use Rattle.theorems.specs.OnTables.{Event, does, after, advances, retired, unchanged}
+use Rattle.theorems.specs.Waiting.{times}
 use Rattle.theorems.proofs.Machine.{Machine, view, withShared, works, followed}
 use Rattle.theorems.proofs.Ghost.{Ghost, num, G}
 use Rattle.theorems.proofs.Invariant.{occurs}

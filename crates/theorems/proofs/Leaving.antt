@@ -20,8 +20,8 @@ use Rattle.definition.specs.Step.{Out}
 use Rattle.definition.proofs.Base.{same?, branch-ind, branch-true, branch-false, put-same, put-other}
 use Rattle.definition.proofs.Codec.{link-not-null, index-link}
 use Rattle.definition.proofs.Within.{PlaceIn, PushIn}
-use Rattle.theorems.specs.Runs.{Event, does, after, advances}
-use Rattle.theorems.specs.Order.{turns, linked, left, Hangs, links, leaves, InOrder}
+use Rattle.theorems.specs.OnTables.{Event, does, after, advances, links, leaves, InOrder}
+use Rattle.theorems.specs.Order.{turns, linked, left, Hangs}
 use Rattle.theorems.proofs.Machine.{Machine, view, withShared, works, followed}
 use Rattle.theorems.proofs.Ghost.{NodeUse, Ghost, Turn, G, headOf, tailOf}
 use Rattle.theorems.proofs.Invariant.{Of, takenNode, SafeNode, HoldsAt, HoldsPop, HoldsPush}
@@ -102,7 +102,7 @@ hangs-first next n z (k ∷ l) to e =
 -- ---- what was linked and what left between two moments
 
 -- no next turned
-linked-none : (M : ℕ) (s s′ : Shared) → ((x : ℕ) → x < M → turns s s′ x ≡ false) → linked M s s′ ≡ []
+pub linked-none : (M : ℕ) (s s′ : Shared) → ((x : ℕ) → x < M → turns s s′ x ≡ false) → linked M s s′ ≡ []
 unfolding linked
 linked-none zero s s′ h = refl
 linked-none (suc k) s s′ h = rw (linked-none k s s′ (λ x hx. h x (omega arith)), branch-false (index (s′ .nodeNext k) ∷ []) [] (h k (omega arith))) refl
@@ -117,7 +117,7 @@ linked-one (suc k) s s′ onto new ho at others to = same? onto k
     (λ ne. rw (linked-one k s s′ onto new (omega arith) at (λ x hx nx. others x (omega arith) nx) to, branch-false (index (s′ .nodeNext k) ∷ []) [] (others k (omega arith) ne)) refl)
 
 -- a next that stays, or is null afterwards, did not turn
-turns-same : (s s′ : Shared) (x : ℕ) → s′ .nodeNext x ≡ s .nodeNext x → turns s s′ x ≡ false
+pub turns-same : (s s′ : Shared) (x : ℕ) → s′ .nodeNext x ≡ s .nodeNext x → turns s s′ x ≡ false
 unfolding turns
 turns-same s s′ x e = rw e (go (isNull (s .nodeNext x)))
   where
@@ -138,7 +138,7 @@ unfolding turns
 turns-on s s′ x a b = rw (a, b) refl
 
 -- the head stays, or moves
-left-none : (s s′ : Shared) → s′ .queueHead ≡ s .queueHead → left s s′ ≡ []
+pub left-none : (s s′ : Shared) → s′ .queueHead ≡ s .queueHead → left s s′ ≡ []
 unfolding left
 left-none s s′ e = branch-true _ _ (eq-eqb (s′ .queueHead) (s .queueHead) e)
 

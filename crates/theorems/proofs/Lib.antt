@@ -43,5 +43,8 @@ pub mod Runs
 pub mod Leaving
 pub mod Tokens
 pub mod Late
+pub mod Back
+pub mod Clean
+pub mod Lent
 pub mod Theorem
 pub mod TailMove

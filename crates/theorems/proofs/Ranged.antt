@@ -7,21 +7,20 @@ use mathlib.Core.Bool.{Bool, true, false, true≢false}
 use mathlib.Core.List.{List, [], _∷_, _++_}
 use Prim.Native.Nat.{ℕ, _/_, _%_, _≤_, _<_}
 use native.Mathlib.Omega.{arith}
-use borrow.Author.Tests.{ltb-false}
 use Rattle.epoch.specs.Epoch.{starting}
-use Rattle.definition.specs.Base.{branch, put, least}
+use Rattle.definition.specs.Base.{put, least}
 use Rattle.definition.specs.Links.{null, link, tagged, pointer}
 use Rattle.definition.specs.Bags.{maxObjects}
-use Rattle.definition.specs.Flow.{on, done, also, finalize, placed, defer, waiting}
 use Rattle.definition.specs.Tables.{Shared, read, write}
 use Rattle.definition.specs.Rule.{asks, follows, sees}
 use Rattle.definition.specs.List.{insert, delete, iterate, predWord}
 use Rattle.definition.specs.Queue.{push, pop}
 use Rattle.definition.specs.Internal.{pinEpoch, pinWord, unpinWord, repin, advanceEpoch, advanceWord, advanceStore, finalWord, rule}
-use Rattle.definition.specs.Calls.{maxCount, maxToken, tokenAbove, begins, opens}
+use Rattle.definition.specs.Calls.{maxCount, opens}
 use Rattle.definition.specs.Public.{takesNode, newParticipant}
-use Rattle.definition.proofs.Base.{branch-ind, put-ind}
+use Rattle.definition.proofs.Base.{put-ind}
 use Rattle.definition.proofs.Within.{PtrIn, PredIn, CursorIn, PopsIn, ThenIn, RegisterIn, WalkIn, PopIn, PushIn, PlaceIn, ItemIn, WorkIn, AfterIn, follows-in}
+use Rattle.definition.proofs.Opens.{opens-in}
 use Rattle.definition.proofs.Kept.{askWord, ValueIn, PlacedIn, place-kept}
 use Rattle.theorems.proofs.Machine.{Machine, Sealed, works, followed}
 use Rattle.theorems.proofs.Ghost.{Ghost, Turn, turnOf}
@@ -34,7 +33,7 @@ use Rattle.theorems.proofs.Roomy.{tidy-after, tidy-called}
 use Rattle.theorems.proofs.Invariant.{Each}
 use Rattle.theorems.proofs.Inv.{Inv, Ranged, Steps, Calls, ruleOf, wonOf, leftOf, afterOf, goes, stepped, called, registered}
 use Rattle.theorems.proofs.Inv as I
-use Rattle.theorems.proofs.Types.{Epoch, Slot, Node, Ptr, Pred, Cursor, Item, Owner, Try, Pops, Deferring, Then, RegisterAt, RepinAt, WalkAt, PopAt, PushAt}
+use Rattle.theorems.proofs.Types.{Epoch, Slot, Node, Ptr, Pred, Cursor, Item, Try, Pops, Then, RegisterAt, RepinAt, WalkAt, PopAt, PushAt}
 use Rattle.theorems.proofs.Types.{Place, Participant, Word, Seen, Work, After, Call}
 
 -- ---- shared words
@@ -364,56 +363,6 @@ pub ranged-step : (N M p : ℕ) (m : Machine) (g : Ghost) → Inv N M m g → St
 ranged-step N M p m g inv st = ranged-at N M p m g inv st
 
 -- ---- a call
-
--- the place and the work that a call begins with
-module _ (N M : ℕ) where
-  abbrev CallIn : After → Type 0
-  CallIn a = PlacedIn N M a × AfterIn N M a
-
-  -- before an access
-  on-call : (pl : Place) (o : Participant) → PlaceIn N M pl → CallIn (on pl o)
-  unfolding PlacedIn AfterIn WorkIn on
-  on-call pl o h = (h, tt)
-
-  -- at once at an end
-  done-call : (v : ℕ) (o : Participant) → CallIn (done v o)
-  unfolding PlacedIn AfterIn WorkIn PlaceIn done
-  done-call v o = (tt, tt)
-
-  -- either way
-  pick-call : (b : Bool) (x y : After) → CallIn x → CallIn y → CallIn (branch b x y)
-  pick-call b x y h k = branch-ind (λ (a : After). CallIn a) b (λ _. h) (λ _. k)
-
-  -- a finalize pins
-  finalize-call : (o : Participant) → CallIn (finalize o)
-  unfolding finalize PlaceIn
-  finalize-call o = on-call (Place.PinEpoch Owner.Finalize) _ tt
-
-  -- a token within its limit, in the bag
-  token-put : (token : ℕ) (o : Participant) → token ≤ maxToken → CallIn (placed (Deferring.Token token) o)
-  unfolding placed also done waiting PlacedIn AfterIn WorkIn ItemIn PlaceIn
-  token-put token o h = (tt, h)
-
-  -- or waiting for a push
-  token-call : (token : ℕ) (o : Participant) → token ≤ maxToken → CallIn (defer (Deferring.Token token) o)
-  unfolding defer PlaceIn ThenIn PushIn
-  token-call token o h = pick-call _ _ _ (token-put token _ h) (on-call (Place.Push (Then.Defer (Deferring.Token token)) PushAt.Epoch) o (h, tt))
-
-  -- each call
-  begins-in : (c : Call) (o : Participant) → tokenAbove c ≡ false → CallIn (begins c o)
-  unfolding begins PlaceIn ThenIn PushIn tokenAbove
-  begins-in Call.Acquire o h = done-call 0 _
-  begins-in Call.Release o h = pick-call _ _ _ (finalize-call o) (done-call 0 _)
-  begins-in Call.Pin o h = pick-call _ _ _ (on-call (Place.PinEpoch Owner.Pin) _ tt) (done-call 0 _)
-  begins-in Call.Unpin o h = pick-call _ _ _ (on-call Place.UnpinWord _ tt) (done-call 0 _)
-  begins-in Call.Repin o h = pick-call _ _ _ (on-call (Place.Repin RepinAt.Word) o tt) (done-call 0 o)
-  begins-in (Call.Defer token) o h = token-call token o (ltb-false maxToken token h)
-  begins-in Call.Flush o h = pick-call _ _ _ (on-call (Place.Push Then.Flush PushAt.Epoch) o (tt, tt)) (on-call (Place.AdvanceEpoch Owner.Flush) o tt)
-
-  -- with the nodes set aside
-  pub opens-in : (c : Call) (o : Participant) → tokenAbove c ≡ false → CallIn (opens N c o)
-  unfolding opens
-  opens-in c o h = begins-in c _ h
 
 -- the ranges are kept by a call
 pub ranged-call : (N M p : ℕ) (c : Call) (m : Machine) (g : Ghost) → Inv N M m g → Calls N M p c m → Ranged N M (called N p c m)

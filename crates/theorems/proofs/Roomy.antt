@@ -20,7 +20,7 @@ use Rattle.definition.specs.Rule.{asks, sees}
 use Rattle.definition.specs.List.{predWord}
 use Rattle.definition.specs.Calls.{needs, opens}
 use Rattle.definition.specs.Public.{takesNode, newParticipant}
-use Rattle.definition.proofs.Base.{branch-ind, same?, put-ind, put-same, sum-ext, sum-put, count-least, least-marked}
+use Rattle.definition.proofs.Base.{same?, put-ind, put-same, sum-ext, sum-put, count-le, count-least, least-marked}
 use Rattle.theorems.proofs.Machine.{Machine, works, followed}
 use Rattle.theorems.proofs.Ghost.{Use, Ghost, Turn, turnOf, G, useTurned, goneTurned, useWorked, moved}
 use Rattle.theorems.proofs.Leads.{leads}
@@ -75,12 +75,6 @@ count-more (suc n) f g j lt e k h = same? j n
     let b = unmarked (f n) (ap f (sym s) ∙ e) in let c = marked (g n) (ap g (sym s) ∙ k) in
     omega arith)
     (λ ne. let a = count-more n f g j (omega arith) e k (λ i l. h i (omega arith)) in let b = one-at (f n) (g n) (h n (omega arith)) in omega arith)
-
--- no more than all
-pub count-le : (n : ℕ) (f : Tab Bool) → count n f ≤ n
-unfolding count sum
-count-le zero f = omega arith
-count-le (suc n) f = let a = count-le n f in let b = branch-ind (λ (k : ℕ). k ≤ 1) (f n) {x = 1} {y = 0} (λ _. omega arith) (λ _. omega arith) in omega arith
 
 -- one that was marked is taken away
 pub count-take : (n : ℕ) (f : Tab Bool) (i : ℕ) → i < n → f i ≡ true → count n (put f i false) + 1 ≡ count n f

@@ -17,7 +17,7 @@ use Rattle.definition.specs.Ranges.{fresh}
 use Rattle.definition.specs.Step.{Out, follow, takeStep}
 use Rattle.definition.specs.Public.{Check, refusal, refused, unless, the, enrolled, callChecks, call, registerChecks, register, stepChecks, step}
 use Rattle.definition.proofs.Base.{branch-ind}
-use Rattle.theorems.specs.Runs.{Event, does, after, advances}
+use Rattle.theorems.specs.OnTables.{Event, does, after, advances}
 use Rattle.theorems.proofs.Machine.{view}
 use Rattle.theorems.proofs.Ghost.{Ghost, num, G}
 use Rattle.theorems.proofs.Inv.{Inv, Steps, Calls, steppedGhost, calledGhost, registeredGhost, view-step, view-call}

@@ -23,7 +23,8 @@ use Rattle.definition.specs.Ranges.{bitWords, isRest, slotIn, nodeIn, ptrIn, pr
 use Rattle.definition.specs.Ranges.{entryPointerIn, headPointerIn, nodePointerIn, endPointerIn, itemIn, bagIn, codeIn, recordIn, bitsIn, sharedIn, inRange, fresh}
 use Rattle.definition.specs.Step.{putItem, sealInto, inBag, freeBag, settle, follow, ruleAt, takeStep}
 use Rattle.definition.specs.Public.{takesNode, the, newParticipant, enrolled, damaged, missing}
-use Rattle.definition.proofs.Base.{branch-true, same?, put-ind, put-same, put-other, both, all-intro}
+use Rattle.definition.proofs.Opens.{opens-in}
+use Rattle.definition.proofs.Base.{branch-true, same?, put-ind, put-same, put-other, both, all-intro, count-le}
 use Rattle.definition.proofs.Codec.{place-back}
 use Rattle.definition.proofs.Within.{PtrIn, PredIn, CursorIn, PopsIn, ThenIn, RegisterIn, WalkIn, PopIn, PushIn, PlaceIn, ItemIn, WorkIn, AfterIn}
 use Rattle.theorems.proofs.Machine.{view, Fits}
@@ -32,8 +33,8 @@ use Rattle.theorems.proofs.Ghost.{Ghost}
 use Rattle.theorems.proofs.Invariant.{Each}
 use Rattle.theorems.proofs.Inv.{Inv, Steps, Calls, ruleOf, afterOf}
 use Rattle.theorems.proofs.Safety.{sum-at}
-use Rattle.theorems.proofs.Roomy.{count-le, step-has-node}
-use Rattle.theorems.proofs.Ranged.{work-after, opens-in}
+use Rattle.theorems.proofs.Roomy.{step-has-node}
+use Rattle.theorems.proofs.Ranged.{work-after}
 use Rattle.theorems.proofs.Types.{Epoch, Slot, Node, Ptr, Pred, Cursor, Item, Pops, Deferring, Then, RegisterAt, WalkAt, PopAt, PushAt}
 use Rattle.theorems.proofs.Types.{Place, Participant, Code, Record, Work, After, Call}
 
@@ -349,7 +350,7 @@ item-word (Item.Node n) = omega arith
 item-word (Item.Slot s) = omega arith
 
 -- freeing sets bits within the table
-free-slots-in : (N M : ℕ) (l : List Item) (f : Tab Bool) (i : ℕ) → Each (ItemIn N M) l → (f i ≡ true → i < N) → freeSlots l f i ≡ true → i < N
+pub free-slots-in : (N M : ℕ) (l : List Item) (f : Tab Bool) (i : ℕ) → Each (ItemIn N M) l → (f i ≡ true → i < N) → freeSlots l f i ≡ true → i < N
 unfolding freeSlots Each ItemIn
 free-slots-in N M [] f i e h k = h k
 free-slots-in N M (Item.Token t ∷ l) f i e h k = free-slots-in N M l f i (e .1) h k
@@ -358,7 +359,7 @@ free-slots-in N M (Item.Slot s ∷ l) f i e h k = free-slots-in N M l (put f (s 
     (put-ind (λ (b : Bool). b ≡ true → i < N) f (s .0) i true (λ x _. rw (← x) (e .0)) (λ _. h)) k
 
 -- of nodes
-free-nodes-in : (N M : ℕ) (l : List Item) (f : Tab Bool) (i : ℕ) → Each (ItemIn N M) l → (f i ≡ true → i < M) → freeNodes l f i ≡ true → i < M
+pub free-nodes-in : (N M : ℕ) (l : List Item) (f : Tab Bool) (i : ℕ) → Each (ItemIn N M) l → (f i ≡ true → i < M) → freeNodes l f i ≡ true → i < M
 unfolding freeNodes Each ItemIn
 free-nodes-in N M [] f i e h k = h k
 free-nodes-in N M (Item.Token t ∷ l) f i e h k = free-nodes-in N M l f i (e .1) h k
@@ -429,7 +430,7 @@ unfolding follow AfterIn
 stored-follow N M p a t st hp le bags f i = stored-work N M p (a .participant) t st hp le bags (a .work) _ f i
 
 -- the work of a step, read off the tables
-step-work : (N M p : ℕ) (t : Tables) (g : Ghost) → Inv N M (view t) g → Steps N M p (view t)
+pub step-work : (N M p : ℕ) (t : Tables) (g : Ghost) → Inv N M (view t) g → Steps N M p (view t)
     → let r = rule (record { 0 = p }) (record { 0 = least M (t .nodeFree) }) (λ n. t .bag (n .0) .epoch) (the p t) (the p t .place) in AfterIn N M (follows r (sees (asks r) (t .shared)))
 unfolding afterOf ruleOf
 step-work N M p t g inv steps = work-after N M p (view t) g inv steps

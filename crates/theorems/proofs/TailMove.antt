@@ -28,7 +28,7 @@ use Rattle.definition.specs.Ranges.{fresh}
 use Rattle.definition.specs.Step.{Out}
 use Rattle.definition.proofs.Base.{same?, put-ind, put-same, put-other, branch-ind}
 use Rattle.definition.proofs.Codec.{place-back, index-link}
-use Rattle.theorems.specs.Runs.{Event, does, after, advances}
+use Rattle.theorems.specs.OnTables.{Event, does, after, advances}
 use Rattle.theorems.proofs.Machine.{Machine, Sealed, view, withShared, works, followed}
 use Rattle.theorems.proofs.Leads.{Leads, leads}
 use Rattle.theorems.proofs.Ghost.{Use, NodeUse, Ghost, Turn, turnOf, num, G, headOf, tailOf, posTurned, lastTurned, moved}

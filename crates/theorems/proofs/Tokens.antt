@@ -16,8 +16,8 @@ use Rattle.definition.specs.Rule.{asks, follows, sees, leaves}
 use Rattle.definition.specs.Step.{Out, inBag, freedBy, answerOf, follow, ruleAt, takeStep}
 use Rattle.definition.specs.Public.{the, enrolled}
 use Rattle.definition.proofs.Base.{sum-ext}
-use Rattle.theorems.specs.Runs.{Event, does, after, advances}
-use Rattle.theorems.specs.Statement.{times, waitsAt, defers, ifAccepted, accepts, waiting, retired, freed}
+use Rattle.theorems.specs.OnTables.{Event, does, after, advances, accepts, retired, freed}
+use Rattle.theorems.specs.Waiting.{times, waitsAt, waiting, defers, ifAccepted}
 use Rattle.theorems.proofs.Machine.{view}
 use Rattle.theorems.proofs.Ghost.{Ghost, G}
 use Rattle.theorems.proofs.Invariant.{waitingItem, sameItem, has, occurs, waits}

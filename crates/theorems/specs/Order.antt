@@ -8,8 +8,7 @@ use Prim.Native.Nat.{ℕ, zero, suc}
 use lib.Dec.{eqb}
 use Rattle.definition.specs.Base.{branch, Tab}
 use Rattle.definition.specs.Links.{link, isNull, index}
-use Rattle.definition.specs.Tables.{Shared, Tables}
-use Rattle.theorems.specs.Runs.{Event, does, after}
+use Rattle.definition.specs.Tables.{Shared}
 
 -- whether the next of node k turned from null to a pointer
 unfoldable pub turns : (s s′ : Shared) → ℕ → Bool
@@ -28,20 +27,3 @@ left s s′ = branch (eqb (s′ .queueHead) (s .queueHead)) [] (index (s′ .que
 unfoldable pub Hangs : Tab ℕ → ℕ → List ℕ → Type 0
 Hangs next n [] = isNull (next n) ≡ true
 Hangs next n (k ∷ l) = (next n ≡ link k) × Hangs next k l
-
-module _ (N M : ℕ) where
-  -- the nodes that were linked during a run, in order
-  unfoldable pub links : List Event → Tables → List ℕ
-  links [] t = []
-  links (v ∷ l) t = linked M (t .shared) (does N M v t .tables .shared) ++ links l (does N M v t .tables)
-
-  -- the nodes whose bags left during a run, in order
-  unfoldable pub leaves : List Event → Tables → List ℕ
-  leaves [] t = []
-  leaves (v ∷ l) t = left (t .shared) (does N M v t .tables .shared) ++ leaves l (does N M v t .tables)
-
-  -- first in, first out: what was linked is what left, in the same order, and then what still hangs on the head
-  pub record InOrder (l : List Event) (t : Tables) : Type 0 where
-    pub rest : List ℕ
-    pub splits : links l t ≡ leaves l t ++ rest
-    pub hangs : Hangs (after N M l t .shared .nodeNext) (index (after N M l t .shared .queueHead)) rest

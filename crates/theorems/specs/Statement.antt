@@ -1,114 +1,125 @@
--- Demand 3, for a reader: what is true of every run of the definition from a fresh start, for any number of participants, any number of nodes
--- from 2 on, and any order of events, as long as the global epoch changed fewer than 2^62 times. What is said of every list of events is said
--- of every point of a run. Assumes nothing.
+-- Demand 3, for a reader: what is true of every run of the public calls on lent lists, from a start that was not refused, in any order and with
+-- any arguments, as long as the global epoch changed fewer than 2^62 times. A run is a list of events; `does` says what comes of each, by the very
+-- functions that the code's promises cite, so what is said here is said of the code. What is said of every run is said of every point of
+-- every run. It speaks of answers, freed tokens and words in the lent lists (`tablesOf` reads them); where a token waits is in specs/Waiting,
+-- what hangs in the queue in specs/Order. Assumes nothing.
 use mathlib.Core.Path.{_≡_}
 use mathlib.Core.Logic.{_≢_}
 use mathlib.Core.Bool.{Bool, true, false, _&&_}
 use mathlib.Core.List.{List, [], _∷_, _++_}
 use Prim.Native.Nat.{ℕ, _+_, _^_, _≤_, _<_}
 use lib.Dec.{eqb}
+use lib.ListN.{take}
 use Rattle.epoch.specs.Epoch.{isPinned}
-use Rattle.definition.specs.Base.{branch, sum}
-use Rattle.definition.specs.Bags.{items, tokens}
-use Rattle.definition.specs.Tables.{Tables}
-use Rattle.definition.specs.Ranges.{fresh}
-use Rattle.definition.specs.Public.{the}
-use Rattle.definition.specs.declared.Deferring.{Deferring}
-use Rattle.definition.specs.declared.Then.{Then}
-use Rattle.definition.specs.declared.Place.{Place}
+use Rattle.definition.specs.Base.{branch}
+use Rattle.definition.specs.Links.{index}
+use Rattle.definition.specs.Tables.{Shared}
+use Rattle.definition.specs.Layout.{Lent, tablesOf}
+use Rattle.definition.specs.Public.{Outcome, startLent, registerLent, callLent, stepLent}
+use Rattle.definition.specs.Survey.{surveyLent}
 use Rattle.definition.specs.declared.Call.{Call}
 use Rattle.definition.specs.declared.Answer.{Answer}
-use Rattle.theorems.specs.Runs.{Event, does, after, advances}
-use Rattle.theorems.specs.Order.{InOrder}
+use Rattle.definition.specs.declared.Report.{Report}
+use Rattle.theorems.specs.Waiting.{times, waiting, defers, ifAccepted}
+use Rattle.theorems.specs.Order.{linked, left, Hangs}
 
--- how often a token is in a list of tokens
-unfoldable pub times : ℕ → List ℕ → ℕ
-times x [] = 0
-times x (y ∷ l) = branch (eqb x y) 1 0 + times x l
-
--- a token that waits behind the push that its defer began, because the bag was full
-unfoldable pub waitsAt : ℕ → Place → ℕ
-waitsAt x Place.Rest = 0
-waitsAt x (Place.Register a) = 0
-waitsAt x (Place.PinEpoch k) = 0
-waitsAt x (Place.PinWord k e) = 0
-waitsAt x (Place.Repin a) = 0
-waitsAt x Place.UnpinWord = 0
-waitsAt x (Place.AdvanceEpoch k) = 0
-waitsAt x (Place.Walk t a) = 0
-waitsAt x (Place.AdvanceWord t curr succ) = 0
-waitsAt x (Place.AdvanceStore t) = 0
-waitsAt x (Place.Pop p a) = 0
-waitsAt x (Place.Push (Then.Defer (Deferring.Token y)) a) = branch (eqb x y) 1 0
-waitsAt x (Place.Push (Then.Defer (Deferring.Slot t c succ)) a) = 0
-waitsAt x (Place.Push (Then.Defer (Deferring.Node p head next)) a) = 0
-waitsAt x (Place.Push Then.Flush a) = 0
-waitsAt x (Place.Push Then.Finalize a) = 0
-waitsAt x Place.FinalWord = 0
-waitsAt x Place.FinalTag = 0
-
--- whether a call is a defer of this token, and whether it was accepted
-unfoldable pub defers : ℕ → Call → ℕ
-defers x Call.Acquire = 0
-defers x Call.Release = 0
-defers x Call.Pin = 0
-defers x Call.Unpin = 0
-defers x Call.Repin = 0
-defers x (Call.Defer y) = branch (eqb x y) 1 0
-defers x Call.Flush = 0
-
--- counted where the call was not refused
-unfoldable pub ifAccepted : ℕ → Answer → ℕ
-ifAccepted k (Answer.Done v n) = k
-ifAccepted k (Answer.More n) = k
-ifAccepted k (Answer.Refused r) = 0
+-- any public call but a second start: a step with the list that it lends for freed tokens, a registering, a call, a survey with its reports
+pub data Event : Type 0 where
+  steps : (p : ℕ) → (places : List ℕ) → Event
+  registers : Event
+  calls : (p : ℕ) → Call → Event
+  surveys : List Report → Event
 
 -- how often an event retires the token: 1 or 0
 unfoldable pub accepts : ℕ → Event → Answer → ℕ
-accepts x (Event.steps places p) a = 0
+accepts x (Event.steps p places) a = 0
 accepts x Event.registers a = 0
 accepts x (Event.calls p c) a = ifAccepted (defers x c) a
+accepts x (Event.surveys reports) a = 0
+
+-- the number of freed tokens that an answer gives, and these tokens: the first so many of the list for them
+unfoldable pub number : Answer → ℕ
+number (Answer.Done v n) = n
+number (Answer.More n) = n
+number (Answer.Refused r) = 0
+
+unfoldable pub frees : Outcome → List ℕ
+frees o = take (number (o .answer)) (o .freed)
 
 module _ (N M : ℕ) where
-  -- how often a token waits: in the participants' bags, behind their pushes, and in the nodes' bags
-  unfoldable pub waiting : ℕ → Tables → ℕ
-  waiting x t = sum N (λ q. times x (tokens (items (t .own q .held) (t .held q))) + waitsAt x (the q t .place))
-      + sum M (λ n. times x (tokens (items (t .bag n .len) (t .bag n .deferreds))))
+  -- what comes of an event: the answer, the lent lists and the list for freed tokens afterwards
+  unfoldable pub does : Event → Lent → Outcome
+  does (Event.steps p places) l = stepLent N M l p places
+  does Event.registers l = registerLent N M l
+  does (Event.calls p c) l = callLent N M l p c
+  does (Event.surveys reports) l = record { answer = surveyLent N M l reports .answer; lent = l; freed = [] }
 
-  -- how often it was retired
-  unfoldable pub retired : ℕ → List Event → Tables → ℕ
-  retired x [] t = 0
-  retired x (v ∷ l) t = accepts x v (does N M v t .answer) + retired x l (does N M v t .tables)
+  -- the shared words in the lent lists
+  abbrev pub words : Lent → Shared
+  words l = tablesOf N M l .shared
 
-  -- how often it was freed
-  unfoldable pub freed : ℕ → List Event → Tables → ℕ
-  freed x [] t = 0
-  freed x (v ∷ l) t = times x (does N M v t .freed) + freed x l (does N M v t .tables)
+  -- the lists after a run
+  unfoldable pub after : List Event → Lent → Lent
+  after [] l = l
+  after (v ∷ run) l = after run (does v l .lent)
+
+  -- how often the global epoch changed
+  unfoldable pub advances : List Event → Lent → ℕ
+  advances [] l = 0
+  advances (v ∷ run) l = branch (eqb (words (does v l .lent) .globalEpoch) (words l .globalEpoch)) 0 1 + advances run (does v l .lent)
+
+  -- how often a token was retired, and how often it was freed
+  unfoldable pub retired : ℕ → List Event → Lent → ℕ
+  retired x [] l = 0
+  retired x (v ∷ run) l = accepts x v (does v l .answer) + retired x run (does v l .lent)
+
+  unfoldable pub freed : ℕ → List Event → Lent → ℕ
+  freed x [] l = 0
+  freed x (v ∷ run) l = times x (frees (does v l)) + freed x run (does v l .lent)
 
   -- whether the word of participant d stood still
-  unfoldable pub unchanged : ℕ → List Event → Tables → Bool
-  unchanged d [] t = true
-  unchanged d (v ∷ l) t = eqb (does N M v t .tables .shared .word d) (t .shared .word d) && unchanged d l (does N M v t .tables)
+  unfoldable pub unchanged : ℕ → List Event → Lent → Bool
+  unchanged d [] l = true
+  unchanged d (v ∷ run) l = eqb (words (does v l .lent) .word d) (words l .word d) && unchanged d run (does v l .lent)
 
-  -- a run of fewer than 2^62 advances
+  -- the nodes that were linked, and those whose bags left, in order
+  unfoldable pub links : List Event → Lent → List ℕ
+  links [] l = []
+  links (v ∷ run) l = linked M (words l) (words (does v l .lent)) ++ links run (does v l .lent)
+
+  unfoldable pub leaves : List Event → Lent → List ℕ
+  leaves [] l = []
+  leaves (v ∷ run) l = left (words l) (words (does v l .lent)) ++ leaves run (does v l .lent)
+
+-- N participants, M nodes, and the lists l that were lent to `start`, whatever they held
+module _ (N M : ℕ) (l : Lent) where
+  abbrev pub started : Lent
+  started = startLent N M l .lent
+
+  -- a run of fewer than 2^62 advances, and the lists after a run
   abbrev pub Short : List Event → Type 0
-  Short l = advances N M l (fresh N M) < 2 ^ 62
+  Short run = advances N M run started < 2 ^ 62
 
-  -- the tables after a run
-  abbrev pub reached : List Event → Tables
-  reached l = after N M l (fresh N M)
+  abbrev pub reached : List Event → Lent
+  reached run = after N M run started
+
+  -- first in, first out: what was linked is what left, in the same order, and then what still hangs on the head
+  pub record InOrder (run : List Event) : Type 0 where
+    pub rest : List ℕ
+    pub splits : links N M run started ≡ leaves N M run started ++ rest
+    pub hangs : Hangs (words N M (reached run) .nodeNext) (index (words N M (reached run) .queueHead)) rest
 
   pub record Reclaims : Type 0 where
     -- every token: accepted retirements are frees and what waits
-    pub balance : (l : List Event) → Short l → (x : ℕ) → retired x l (fresh N M) ≡ freed x l (fresh N M) + waiting x (reached l)
+    pub balance : (run : List Event) → Short run → (x : ℕ) → retired N M x run started ≡ freed N M x run started + waiting N M x (tablesOf N M (reached run))
     -- so a token that was retired once is freed at most once
-    pub once : (l : List Event) → Short l → (x : ℕ) → retired x l (fresh N M) ≡ 1 → freed x l (fresh N M) ≤ 1
+    pub once : (run : List Event) → Short run → (x : ℕ) → retired N M x run started ≡ 1 → freed N M x run started ≤ 1
     -- no early free: after the events `before`, which end just before a token's first retirement, participant d is pinned; then come the events
     -- `since`, that retirement the first of them; and event v frees the token. Then d's word changed in the course of `since`
-    pub late : (before since : List Event) (v : Event) → Short (before ++ since) → (x d : ℕ) → d < N → retired x before (fresh N M) ≡ 0
-        → isPinned (reached before .shared .word d) ≡ true → times x (does N M v (reached (before ++ since)) .freed) ≢ 0
-        → unchanged d since (reached before) ≡ false
+    pub late : (before since : List Event) (v : Event) → Short (before ++ since) → (x d : ℕ) → d < N → retired N M x before started ≡ 0
+        → isPinned (words N M (reached before) .word d) ≡ true → times x (frees (does N M v (reached (before ++ since)))) ≢ 0
+        → unchanged N M d since (reached before) ≡ false
     -- refusal 1 never occurs
-    pub whole : (l : List Event) → Short l → (v : Event) → does N M v (reached l) .answer ≢ Answer.Refused 1
+    pub whole : (run : List Event) → Short run → (v : Event) → does N M v (reached run) .answer ≢ Answer.Refused 1
     -- bags leave the queue in the order in which they were linked
-    pub order : (l : List Event) → Short l → InOrder N M l (fresh N M)
+    pub order : (run : List Event) → Short run → InOrder run

@@ -1,0 +1,2 @@
+-- Laws of `call`.
+pub mod Laws

@@ -1,0 +1,2 @@
+-- Definitions that the contracts of `call` cite.
+pub mod Calls

@@ -1,0 +1,2 @@
+-- What the promises of `enroll` cite.
+pub mod Enroll

@@ -1,0 +1,102 @@
+-- The same on the definition's tables, for any number of participants, and any number of nodes from 2 on: runs of `step`, `register` and `call`, and
+-- what is true of every run from a fresh start. What specs/Statement says of lent lists is proved from this; a survey is no event here, and a step
+-- has a number of places for freed tokens in place of a list. Assumes nothing.
+use mathlib.Core.Path.{_≡_}
+use mathlib.Core.Logic.{_≢_}
+use mathlib.Core.Bool.{Bool, true, false, _&&_}
+use mathlib.Core.List.{List, [], _∷_, _++_}
+use Prim.Native.Nat.{ℕ, _+_, _^_, _≤_, _<_}
+use lib.Dec.{eqb}
+use Rattle.epoch.specs.Epoch.{isPinned}
+use Rattle.definition.specs.Base.{branch}
+use Rattle.definition.specs.Links.{index}
+use Rattle.definition.specs.Tables.{Tables}
+use Rattle.definition.specs.Ranges.{fresh}
+use Rattle.definition.specs.Step.{Out}
+use Rattle.definition.specs.Public.{call, register, step}
+use Rattle.definition.specs.declared.Call.{Call}
+use Rattle.definition.specs.declared.Answer.{Answer}
+use Rattle.theorems.specs.Order.{linked, left, Hangs}
+use Rattle.theorems.specs.Waiting.{times, waiting, defers, ifAccepted}
+
+pub data Event : Type 0 where
+  steps : (places p : ℕ) → Event
+  registers : Event
+  calls : ℕ → Call → Event
+
+-- how often an event retires the token: 1 or 0
+unfoldable pub accepts : ℕ → Event → Answer → ℕ
+accepts x (Event.steps places p) a = 0
+accepts x Event.registers a = 0
+accepts x (Event.calls p c) a = ifAccepted (defers x c) a
+
+module _ (N M : ℕ) where
+  -- what comes of one event
+  unfoldable pub does : Event → Tables → Out
+  does (Event.steps places p) t = step N M places p t
+  does Event.registers t = register N M t
+  does (Event.calls p c) t = call N M p c t
+
+  -- the tables after events, in order
+  unfoldable pub after : List Event → Tables → Tables
+  after [] t = t
+  after (v ∷ l) t = after l (does v t .tables)
+
+  -- how often the global epoch changed
+  unfoldable pub advances : List Event → Tables → ℕ
+  advances [] t = 0
+  advances (v ∷ l) t = branch (eqb (does v t .tables .shared .globalEpoch) (t .shared .globalEpoch)) 0 1 + advances l (does v t .tables)
+
+  -- how often it was retired
+  unfoldable pub retired : ℕ → List Event → Tables → ℕ
+  retired x [] t = 0
+  retired x (v ∷ l) t = accepts x v (does v t .answer) + retired x l (does v t .tables)
+
+  -- how often it was freed
+  unfoldable pub freed : ℕ → List Event → Tables → ℕ
+  freed x [] t = 0
+  freed x (v ∷ l) t = times x (does v t .freed) + freed x l (does v t .tables)
+
+  -- whether the word of participant d stood still
+  unfoldable pub unchanged : ℕ → List Event → Tables → Bool
+  unchanged d [] t = true
+  unchanged d (v ∷ l) t = eqb (does v t .tables .shared .word d) (t .shared .word d) && unchanged d l (does v t .tables)
+
+  -- the nodes that were linked during a run, in order
+  unfoldable pub links : List Event → Tables → List ℕ
+  links [] t = []
+  links (v ∷ l) t = linked M (t .shared) (does v t .tables .shared) ++ links l (does v t .tables)
+
+  -- the nodes whose bags left during a run, in order
+  unfoldable pub leaves : List Event → Tables → List ℕ
+  leaves [] t = []
+  leaves (v ∷ l) t = left (t .shared) (does v t .tables .shared) ++ leaves l (does v t .tables)
+
+  -- first in, first out: what was linked is what left, in the same order, and then what still hangs on the head
+  pub record InOrder (l : List Event) (t : Tables) : Type 0 where
+    pub rest : List ℕ
+    pub splits : links l t ≡ leaves l t ++ rest
+    pub hangs : Hangs (after l t .shared .nodeNext) (index (after l t .shared .queueHead)) rest
+
+  -- a run of fewer than 2^62 advances
+  abbrev pub Short : List Event → Type 0
+  Short l = advances l (fresh N M) < 2 ^ 62
+
+  -- the tables after a run
+  abbrev pub reached : List Event → Tables
+  reached l = after l (fresh N M)
+
+  pub record ReclaimsOnTables : Type 0 where
+    -- every token: accepted retirements are frees and what waits
+    pub balance : (l : List Event) → Short l → (x : ℕ) → retired x l (fresh N M) ≡ freed x l (fresh N M) + waiting N M x (reached l)
+    -- so a token that was retired once is freed at most once
+    pub once : (l : List Event) → Short l → (x : ℕ) → retired x l (fresh N M) ≡ 1 → freed x l (fresh N M) ≤ 1
+    -- no early free: after the events `before`, which end just before a token's first retirement, participant d is pinned; then come the events
+    -- `since`, that retirement the first of them; and event v frees the token. Then d's word changed in the course of `since`
+    pub late : (before since : List Event) (v : Event) → Short (before ++ since) → (x d : ℕ) → d < N → retired x before (fresh N M) ≡ 0
+        → isPinned (reached before .shared .word d) ≡ true → times x (does v (reached (before ++ since)) .freed) ≢ 0
+        → unchanged d since (reached before) ≡ false
+    -- refusal 1 never occurs
+    pub whole : (l : List Event) → Short l → (v : Event) → does v (reached l) .answer ≢ Answer.Refused 1
+    -- bags leave the queue in the order in which they were linked
+    pub order : (l : List Event) → Short l → InOrder l (fresh N M)
