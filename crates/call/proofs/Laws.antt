@@ -28,7 +28,7 @@ use Rattle.ranges.proofs.Facts.{Facts, facts, RecordFacts, record-facts, bag-le
 use Rattle.follow.specs.Follow.{Follows, Followed}
 use Rattle.step.specs.Steps.{Leaves}
 use Rattle.step.proofs.Room.{Roomy, opens-room}
-use Rattle.step.proofs.Carry.{Carries, may-carry, carried-leaves}
+use Rattle.step.proofs.Carry.{Carries, freed-in, may-carry, carried-leaves}
 use Rattle.call.specs.Calls.{Calls}
 
 module _ (N M p : ℕ) (c : Call) (l : Lent) (s : Calls N M p c l) where
@@ -80,7 +80,7 @@ module _ (N M p : ℕ) (c : Call) (l : Lent) (s : Calls N M p c l) where
     below = s .below;
     held-is = refl;
     share-is = refl;
-    bags = known .bags;
+    freed = freed-in N M l (after .work) (opens-in N M c own (s .small) .1) (known .bags);
     work-in = opens-in N M c own (s .small) .1;
     place-in = opens-in N M c own (s .small) .0;
     room = opens-room (own .held) N c own refl;

@@ -62,7 +62,7 @@ fn answer(k: u64) -> Checked
 }
 
 // Returns the one or the other.
-fn pick(b: bool, x: u64, y: u64) -> u64
+pub fn pick(b: bool, x: u64, y: u64) -> u64
     ensures { λ r. ⌜ r ≡ branch b x y ⌝ }
 {
     if b { x } else { y }
@@ -71,7 +71,7 @@ fn pick(b: bool, x: u64, y: u64) -> u64
 // ---- what stands in the lists
 
 // Returns whether slot `p` is free.
-fn slot_free(globals: &[u64], n: usize, p: usize) -> bool
+pub fn slot_free(globals: &[u64], n: usize, p: usize) -> bool
     requires { ⌜ (p < n) × (5 + bitWords n ≤ length (now globals)) ⌝ }
     ensures { λ r. ⌜ r ≡ slotBits n (now (globals .entry)) p ⌝ }
 {
@@ -197,7 +197,7 @@ fn call_at(n: usize, m: usize, globals: &[u64], participants: &[u64], p: usize, 
 }
 
 // Returns what every call is refused for first: 2 for sizes, 1 for ranges, else 0.
-fn damage(
+pub fn damage(
     n: usize,
     m: usize,
     globals: &[u64],

@@ -41,13 +41,28 @@ lists-are N M l t s e small =
 
 -- ---- the work
 
-work-fits : (N M p k : ℕ) (l : Lent) (w : Work) → WorkIn N M w → RoomFor k w → k ≤ 64
-    → ((x : ℕ) → x < M → bagIn N M (bagFrom (l .nodes) (l .queued) x .len) (bagFrom (l .nodes) (l .queued) x .deferreds) ≡ true) → Fits N M p k w l
-unfolding WorkIn RoomFor Fits
-work-fits N M p k l Work.Nothing i r small bags = tt
-work-fits N M p k l (Work.Put item) i r small bags = r
-work-fits N M p k l (Work.PutThenFree item x) i r small bags = (r, (i .1, bags (x .0) (i .1)))
-work-fits N M p k l (Work.Seal x e) i r small bags = (small, i)
+-- the bag that the work frees, if any, is in range
+unfoldable pub FreedIn : (N M : ℕ) → Lent → Work → Type 0
+FreedIn N M l Work.Nothing = Unit {0}
+FreedIn N M l (Work.Put item) = Unit {0}
+FreedIn N M l (Work.PutThenFree item x) = bagIn N M (bagFrom (l .nodes) (l .queued) (x .0) .len) (bagFrom (l .nodes) (l .queued) (x .0) .deferreds) ≡ true
+FreedIn N M l (Work.Seal x e) = Unit {0}
+
+-- so where all are
+pub freed-in : (N M : ℕ) (l : Lent) (w : Work) → WorkIn N M w
+    → ((x : ℕ) → x < M → bagIn N M (bagFrom (l .nodes) (l .queued) x .len) (bagFrom (l .nodes) (l .queued) x .deferreds) ≡ true) → FreedIn N M l w
+unfolding FreedIn WorkIn
+freed-in N M l Work.Nothing i bags = tt
+freed-in N M l (Work.Put item) i bags = tt
+freed-in N M l (Work.PutThenFree item x) i bags = bags (x .0) (i .1)
+freed-in N M l (Work.Seal x e) i bags = tt
+
+work-fits : (N M p k : ℕ) (l : Lent) (w : Work) → WorkIn N M w → RoomFor k w → k ≤ 64 → FreedIn N M l w → Fits N M p k w l
+unfolding WorkIn RoomFor Fits FreedIn
+work-fits N M p k l Work.Nothing i r small freed = tt
+work-fits N M p k l (Work.Put item) i r small freed = r
+work-fits N M p k l (Work.PutThenFree item x) i r small freed = (r, (i .1, freed))
+work-fits N M p k l (Work.Seal x e) i r small freed = (small, i)
 
 item-fits : (N M : ℕ) → N ≤ 4096 → M ≤ 4096 → (i : Item) → ItemIn N M i → itemWord i < 2 ^ 64
 unfolding ItemIn itemWord maxToken
@@ -74,15 +89,15 @@ work-settles N M p k l f n m s hp places (Work.Seal x e) i fit =
 
 -- ---- all that follows
 
--- participant p, who is o, may go on as `a` says: the work and the new place are within the tables, there is room for an item, and the
--- set-aside total covers the old share and can hold the new one
+-- participant p, who is o, may go on as `a` says: the work and the new place are within the tables, there is room for an item, a bag that is
+-- freed is in range, and the set-aside total covers the old share and can hold the new one. No more than what is touched
 pub record Carries (N M p : ℕ) (l : Lent) (o : Participant) (a : After) : Type 0 where
   pub few : (N ≤ 4096) × (M ≤ 4096)
   pub size : Sized N M l
   pub below : p < N
   pub held-is : recordAt (cell participantWords (l .participants) p) .held ≡ o .held
   pub share-is : recordAt (cell participantWords (l .participants) p) .share ≡ o .share
-  pub bags : (x : ℕ) → x < M → bagIn N M (bagFrom (l .nodes) (l .queued) x .len) (bagFrom (l .nodes) (l .queued) x .deferreds) ≡ true
+  pub freed : FreedIn N M l (a .work)
   pub work-in : WorkIn N M (a .work)
   pub place-in : PlaceIn N M (a .participant .place)
   pub room : RoomFor (o .held) (a .work)
@@ -92,7 +107,7 @@ pub record Carries (N M p : ℕ) (l : Lent) (o : Participant) (a : After) : Type
 
 module _ (N M p : ℕ) (l : Lent) (o : Participant) (a : After) (c : Carries N M p l o a) where
   fits : Fits N M p (o .held) (a .work) l
-  fits = work-fits N M p (o .held) l (a .work) (c .work-in) (c .room) (c .held-small) (c .bags)
+  fits = work-fits N M p (o .held) l (a .work) (c .work-in) (c .room) (c .held-small) (c .freed)
 
   -- the set-aside total can be changed
   aside : SetsAside (settledGlobals N (a .work) (l .globals) (l .nodes) (l .queued)) (o .share) (a .participant .share)

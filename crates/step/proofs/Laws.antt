@@ -43,7 +43,7 @@ use Rattle.ranges.proofs.Laws.{limits-small}
 use Rattle.ranges.proofs.Facts.{Facts, facts, record-facts, record-place, bag-len-small}
 use Rattle.step.proofs.Access.{read-in, ask-in, ask-word, follows-seen}
 use Rattle.step.proofs.Room.{RoomFor, Roomy, work-room, spare-unused}
-use Rattle.step.proofs.Carry.{Carries}
+use Rattle.step.proofs.Carry.{Carries, freed-in}
 
 module _ (N M p : ℕ) (l : Lent) (s : Sound N M l) (hp : p < N) (present : missing N M p (tablesOf N M l) ≡ false) where
   -- the tables, the participant, its rule, its access, what it sees and what follows
@@ -174,7 +174,7 @@ module _ (N M p : ℕ) (l : Lent) (s : Sound N M l) (hp : p < N) (present : miss
     below = hp;
     held-is = held-left;
     share-is = share-left;
-    bags = λ x lt. rw (kept-bags ask (l .globals) (l .participants) (l .nodes) asked-in (l .queued)) (bags-known x lt);
+    freed = freed-in N M left (after .work) work-in (λ x lt. rw (kept-bags ask (l .globals) (l .participants) (l .nodes) asked-in (l .queued)) (bags-known x lt));
     work-in = work-in;
     place-in = place-after;
     room = room-after;

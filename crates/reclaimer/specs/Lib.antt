@@ -1,0 +1,2 @@
+-- What the promises of `reclaimer` cite beside the definition.
+pub mod Outcomes

@@ -1,0 +1,2 @@
+-- What the promises of `survey` cite beside the definition.
+pub mod Surveys
