@@ -72,6 +72,8 @@ def schedules(lines):
             name = line[1:].strip()
         elif line.strip() == "=":
             found.append((name, []))
+        elif line.startswith("="):
+            sys.exit(f"only schedules of {N} participants and {M} nodes are compared, not `{line.strip()}`")
         elif line.strip():
             found[-1][1].append([int(x) for x in line.split()])
     return found

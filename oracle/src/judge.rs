@@ -130,7 +130,7 @@ impl Judge {
         self.courses[slot].as_ref()
     }
     pub(crate) fn running(&self, slot: usize) -> bool {
-        self.courses[slot].is_some()
+        self.courses.get(slot).is_some_and(Option::is_some)
     }
     /// Registered, or in the middle of an operation.
     pub(crate) fn present(&self, slot: usize) -> bool {

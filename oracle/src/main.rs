@@ -14,6 +14,7 @@ mod coverage;
 mod generate;
 mod judge;
 mod layout;
+mod noise;
 mod place;
 mod play;
 #[allow(dead_code)]
@@ -84,8 +85,9 @@ fn main() {
             std::process::exit(i32::from(!agrees))
         }
         Some("stream") => stream_command(arguments),
+        Some("noise") => noise_command(arguments),
         Some("record") => record_command(arguments),
-        _ => fail("usage: oracle play|worked|generate|stream|record|coverage|agree, see README.md"),
+        _ => fail("usage: oracle play|worked|generate|stream|noise|record|coverage|agree, see README.md"),
     }
 }
 
@@ -138,6 +140,7 @@ fn stream_command(mut arguments: Arguments) {
     let only = profile(&mut arguments);
     let first = wish(&mut arguments, generate::Profile::Whole);
     let mut out = std::io::BufWriter::new(std::io::stdout().lock());
+    let mut written = spread::Written::default();
     for number in 0..schedules {
         let (turn, name) = generate::PROFILES[(number % 7) as usize];
         let wish = generate::Wish { seed: first.seed + number, profile: only.unwrap_or(turn), ..first };
@@ -145,15 +148,26 @@ fn stream_command(mut arguments: Arguments) {
         let name = only.map_or(name, |profile| generate::PROFILES[profile as usize].1);
         let shows = format!("N {} M {} wild {}", wish.n, wish.m, wish.wild);
         let run = generate::generate(wish);
-        spread::write_schedule(&format!("{name}, seed {}", wish.seed), &shows, &run.log, (wish.n, wish.m), &mut text);
+        let name = format!("{name}, seed {}", wish.seed);
+        spread::write_schedule((&name, &shows), &run.log, (wish.n, wish.m), &mut written, &mut text);
         out.write_all(text.as_bytes()).unwrap_or_else(|error| fail(&error.to_string()));
     }
+    eprint!("{written}");
+}
+
+/// Bytes for the schedule program that nobody asked for: records of which half are random bytes, and half have one thing wrong or nothing.
+fn noise_command(mut arguments: Arguments) {
+    let mut rng = generate::Rng(arguments.number("--seed", 1));
+    let records = arguments.number("--records", 1000);
+    let bytes: Vec<u8> = (0..records).flat_map(|_| noise::record(&mut rng)).collect();
+    std::io::stdout().write_all(&bytes).unwrap_or_else(|error| fail(&error.to_string()));
 }
 
 fn record_command(mut arguments: Arguments) {
     let seed = arguments.number("--seed", 1);
     let file = arguments.text("--out").unwrap_or_else(|| fail("--out is wanted"));
-    let (answers, table) = spread::record(seed);
+    let (answers, table, written) = spread::record(seed);
+    eprint!("{written}");
     std::fs::write(&file, &answers).unwrap_or_else(|error| fail(&format!("{file}: {error}")));
     match arguments.text("--table") {
         Some(file) => std::fs::write(&file, &table).unwrap_or_else(|error| fail(&format!("{file}: {error}"))),

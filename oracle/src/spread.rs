@@ -102,9 +102,31 @@ fn describe(feature: &Feature) -> String {
     }
 }
 
+/// How much was written. As text it is what the program `replay` has to say of it.
+#[derive(Default)]
+pub(crate) struct Written {
+    schedules: usize,
+    records: usize,
+    words: usize,
+}
+
+impl std::fmt::Display for Written {
+    fn fmt(&self, form: &mut std::fmt::Formatter) -> std::fmt::Result {
+        let Written { schedules, records, words } = self;
+        writeln!(form, "{schedules} schedules\n{records} records\n{words} words\n0 lines not understood\n0 differences")
+    }
+}
+
 /// The lines of one schedule, and what it shows.
-pub(crate) fn write_schedule(name: &str, shows: &str, log: &[Record], (n, m): (usize, usize), text: &mut String) -> Tally {
-    *text += &format!("# {name}: {shows}\n=\n");
+pub(crate) fn write_schedule(
+    (name, shows): (&str, &str),
+    log: &[Record],
+    (n, m): (usize, usize),
+    written: &mut Written,
+    text: &mut String,
+) -> Tally {
+    let sizes = if (n, m) == (32, 128) { String::new() } else { format!(" {n} {m}") };
+    *text += &format!("# {name}: {shows}\n={sizes}\n");
     let mut judge = Judge::start(n, m, false);
     let mut book = Book::fresh();
     let mut tally = Tally::default();
@@ -112,32 +134,34 @@ pub(crate) fn write_schedule(name: &str, shows: &str, log: &[Record], (n, m): (u
         let outcome = judge.play(*record);
         tally.note(outcome.seen.as_ref(), outcome.freed.len());
         *text += &recorded_line(*record, &outcome, &mut book, &judge);
+        written.words += book.words(&judge);
     }
+    written.schedules += 1;
+    written.records += log.len();
     tally
 }
 
-pub(crate) fn record(seed: u64) -> (String, String) {
+/// The answers, their table, and how much was written.
+pub(crate) fn record(seed: u64) -> (String, String, Written) {
     let mut text = format!("# Answers of crossbeam-epoch 0.9.21, recorded by `oracle record --seed {seed}`. Form: oracle/README.md.\n");
     let mut tally = Tally::default();
     let mut have = BTreeSet::new();
-    let mut schedules = 0;
+    let mut written = Written::default();
     for worked in worked::all().filter(|worked| worked.usual) {
         let log = worked.run.log.clone();
         have.extend(candidate(String::new(), log.clone()).first.into_keys());
-        tally.add(&write_schedule(worked.name, worked.says, &log, (32, 128), &mut text));
-        schedules += 1;
+        tally.add(&write_schedule((worked.name, worked.says), &log, (32, 128), &mut written, &mut text));
     }
     let made = candidates(seed);
     while let Some((at, records)) = best(&made, &have) {
         let new: Vec<&Feature> = made[at].first.keys().filter(|feature| !have.contains(feature)).collect();
         let shows: Vec<String> = new.into_iter().map(describe).collect();
         let log = &made[at].log[..records];
-        tally.add(&write_schedule(&made[at].name, &shows.join("; "), log, (32, 128), &mut text));
+        tally.add(&write_schedule((&made[at].name, &shows.join("; ")), log, (32, 128), &mut written, &mut text));
         have.extend(made[at].first.keys());
-        schedules += 1;
     }
-    let table = coverage_page(seed, schedules, text.len(), &tally);
-    (text, table)
+    let table = coverage_page(seed, written.schedules, text.len(), &tally);
+    (text, table, written)
 }
 
 fn coverage_page(seed: u64, schedules: usize, bytes: usize, tally: &Tally) -> String {

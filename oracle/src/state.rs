@@ -47,6 +47,14 @@ impl Book {
         changed
     }
 
+    /// How many words there are to compare: four global ones, the free bits, and the words, counts and items of what is taken.
+    pub(crate) fn words(&self, judge: &Judge) -> usize {
+        let taken = |base: usize, length: usize| if self.cells[base] == 0 { 0 } else { length + self.cells[base + length] as usize };
+        let slots = (0..judge.n).map(|slot| 1 + taken(SLOT_CELLS + slot * BLOCK, LENGTH_OF_SLOT));
+        let nodes = (0..judge.m).map(|node| 1 + taken(NODE_CELLS + node * BLOCK, LENGTH_OF_NODE));
+        4 + slots.chain(nodes).sum::<usize>()
+    }
+
     fn put(&mut self, cell: usize, value: u64, changed: &mut Vec<(usize, u64)>) {
         if self.cells[cell] != value {
             self.cells[cell] = value;

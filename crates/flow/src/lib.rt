@@ -6,7 +6,6 @@
 pub mod links; // links.rt: pointers as words
 
 use definition::After;
-use definition::Counts;
 use definition::Cursor;
 use definition::Deferring;
 use definition::End;
@@ -92,21 +91,11 @@ pub fn pick_after(b: bool, x: After, y: After) -> After
     if b { x } else { y }
 }
 
-// The participant with other counts.
+// The participant with other counts: `counts` changes them where they stand.
 pub fn counting(guards: u64, handles: u64, pins: u64, o: Participant) -> Participant
     ensures { λ r. ⌜ r ≡ counting guards handles pins o ⌝ }
 {
-    let place = o.place;
-    Participant {
-        counts: Counts {
-            guards: guards,
-            handles: handles,
-            pins: pins,
-        },
-        held: o.held,
-        share: o.share,
-        place: place,
-    }
+    counts::counting(guards, handles, pins, o)
 }
 
 // The participant with a bag of another length.

@@ -12,7 +12,7 @@ use Rattle.definition.specs.Base.{branch, least}
 use Rattle.definition.specs.Bags.{maxObjects}
 use Rattle.definition.specs.Calls.{opens}
 use Rattle.definition.specs.Layout.{Lent, lent, sized, tablesOf, lentOf}
-use Rattle.definition.specs.Public.{Check, refusal, unless, refused, Outcome, kept, given, lending, registerChecks, callChecks, stepChecks, the, enrolled, register, call, step, startLent, registerLent, callLent, stepLent}
+use Rattle.definition.specs.Public.{Check, refusal, unless, refused, Outcome, outcome, kept, given, lending, registerChecks, callChecks, stepChecks, the, enrolled, register, call, step, startLent, registerLent, callLent, stepLent}
 use Rattle.definition.specs.Ranges.{withinLimits, fresh}
 use Rattle.definition.specs.Step.{Out, answerOf, follow, takeStep}
 use Rattle.definition.specs.Tables.{Tables}
@@ -115,9 +115,12 @@ module _ (N M : ℕ) (l : Lent) (b : Bool) (e : b ≡ (withinLimits N M && sized
       let m = limits-small N M (s .0) in
       (omega arith, s .1)
 
-  pub started : not b ≡ false → (l′ : Lent) → l′ ≡ lentOf N M (fresh N M) → record { answer = Answer.Done 0 0; lent = l′; freed = [] } ≡ startLent N M l
+  -- the five lists are the fresh ones
+  pub started : not b ≡ false → (g p n h q : List ℕ) → (g ≡ lentOf N M (fresh N M) .globals) × ((p ≡ lentOf N M (fresh N M) .participants)
+      × ((n ≡ lentOf N M (fresh N M) .nodes) × ((h ≡ lentOf N M (fresh N M) .held) × (q ≡ lentOf N M (fresh N M) .queued))))
+      → outcome (Answer.Done 0 0) g p n h q [] ≡ startLent N M l
   unfolding startLent lending given branch
-  started h l′ is = rw (is, sym e ∙ not-false b h)
+  started u g p n h q a = rw (a .0, a .1 .0, a .1 .1 .0, a .1 .1 .1 .0, a .1 .1 .1 .1, sym e ∙ not-false b u)
 
 -- ---- a step
 

@@ -78,7 +78,7 @@ pub fn register(
     enroll(n, globals, participants, nodes)
 }
 
-// Makes the call `c` of participant `p`, up to its first access.
+// Makes the call `c` of participant `p`, up to its first access: a call that has none is over at once, and the others go on by steps.
 pub fn call(
     n: usize,
     m: usize,
@@ -351,7 +351,7 @@ fn surveyed(c: Checked) -> Answer
     Answer::Done(0, 0)
 }
 
-// Fills the list with one report for each participant.
+// Fills the list with one report for each participant. Nothing else changes.
 pub fn survey(
     n: usize,
     m: usize,

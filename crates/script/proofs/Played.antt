@@ -81,19 +81,19 @@ module _ (l : Lent) (places : List ℕ) (fits : sized 32 128 l ≡ true) (room :
   unfolding lending withinLimits branch maxParticipants maxNodes
   lending-back lent f = rw fits
 
-  acts-event : (e : Event) → acts l places (actionFor e) ≡ back l places (does 32 128 e tables)
+  acts-event : (e : Event) → acts 32 128 l places (actionFor e) ≡ back l places (does 32 128 e tables)
   unfolding acts actionFor does stepLent registerLent callLent
   acts-event (Event.steps p) = rw (lending-back places (step 32 128 (length places) p), room)
   acts-event Event.registers = rw (lending-back [] (register 32 128)) (keeping-given l places _ _ (register-none tables))
   acts-event (Event.calls p c) = rw (lending-back [] (call 32 128 p c)) (keeping-given l places _ _ (call-none tables p c))
 
   -- a record on the lists is the record on the tables that they hold
-  pub acts-played : (b : List ℕ) → acts l places (actionIn b) ≡ back l places (played b tables)
+  pub acts-played : (b : List ℕ) → acts 32 128 l places (actionIn b) ≡ back l places (played b tables)
   unfolding actionIn played acts given branch
   acts-played b = go (whole b) (actionOf (getD b 0 0) (getD b 1 0) (tokenIn b)) (acts-event _)
     where
-      go : (w : Bool) (e : Event) → acts l places (actionFor e) ≡ back l places (does 32 128 e tables)
-          → acts l places (branch w (actionFor e) Action.Broken) ≡ back l places (branch w (does 32 128 e tables) (refused 13 tables))
+      go : (w : Bool) (e : Event) → acts 32 128 l places (actionFor e) ≡ back l places (does 32 128 e tables)
+          → acts 32 128 l places (branch w (actionFor e) Action.Broken) ≡ back l places (branch w (does 32 128 e tables) (refused 13 tables))
       go true e same = same
       go false e same = refl
 
@@ -123,13 +123,13 @@ module _ (l : Lent) (places : List ℕ) (o : Out) (k : Counted o) where
 
 -- the line that a record's answer is written as, with the freed tokens from the front of their list, is the definition's
 pub line-played : (l : Lent) (places b : List ℕ) → sized 32 128 l ≡ true → length places ≡ maxObjects
-    → lineFrom (acts l places (actionIn b)) ≡ line (played b (tablesOf 32 128 l))
+    → lineFrom (acts 32 128 l places (actionIn b)) ≡ line (played b (tablesOf 32 128 l))
 line-played l places b fits room =
     rw (acts-played l places fits room b) (line-back l places (played b (tablesOf 32 128 l)) (played-counted (tablesOf 32 128 l) b))
 
 -- and the list for freed tokens holds all that the answer counts
 pub room-played : (l : Lent) (places b : List ℕ) → sized 32 128 l ≡ true → length places ≡ maxObjects
-    → freedCount (acts l places (actionIn b) .answer) ≤ length (acts l places (actionIn b) .freed)
+    → freedCount (acts 32 128 l places (actionIn b) .answer) ≤ length (acts 32 128 l places (actionIn b) .freed)
 room-played l places b fits room =
     let o = played b (tablesOf 32 128 l) in
     rw (acts-played l places fits room b) (room-given l places o (played-counted (tablesOf 32 128 l) b) (o .answer))
@@ -144,19 +144,19 @@ lines-enough (suc m) (suc n) [] l places h k = refl
 lines-enough zero n (x ∷ b) l places h k = absurd (omega arith)
 lines-enough (suc m) zero (x ∷ b) l places h k = absurd (omega arith)
 lines-enough (suc m) (suc n) (x ∷ b) l places h k =
-    let o = acts l places (actionIn (take 8 (x ∷ b))) in
+    let o = acts 32 128 l places (actionIn (take 8 (x ∷ b))) in
     let left : length (drop 7 b) ≤ length b = simp length-drop (omega arith) in
     ap (λ (r : List ℕ). lineFrom o ++ r) (lines-enough m n (drop 7 b) (o .lent) (o .freed) (omega arith) (omega arith))
 
 -- the lines of all records are that of the first, and those of the rest on what it leaves
 pub lines-next : (b : List ℕ) (l : Lent) (places : List ℕ) (fuel : ℕ) → 0 < length b → length b ≤ fuel
     → linesOn fuel b l places
-    ≡ lineFrom (acts l places (actionIn (take 8 b))) ++ linesOn fuel (drop 8 b) (acts l places (actionIn (take 8 b)) .lent) (acts l places (actionIn (take 8 b)) .freed)
+    ≡ lineFrom (acts 32 128 l places (actionIn (take 8 b))) ++ linesOn fuel (drop 8 b) (acts 32 128 l places (actionIn (take 8 b)) .lent) (acts 32 128 l places (actionIn (take 8 b)) .freed)
 unfolding linesOn
 lines-next [] l places fuel h k = absurd (omega arith)
 lines-next (x ∷ b) l places zero h k = absurd (omega arith)
 lines-next (x ∷ b) l places (suc fuel) h k =
-    let o = acts l places (actionIn (take 8 (x ∷ b))) in
+    let o = acts 32 128 l places (actionIn (take 8 (x ∷ b))) in
     let left : length (drop 7 b) ≤ length b = simp length-drop (omega arith) in
     ap (λ (r : List ℕ). lineFrom o ++ r) (lines-enough fuel (suc fuel) (drop 7 b) (o .lent) (o .freed) (omega arith) (omega arith))
 

@@ -1,5 +1,5 @@
--- What an action does to lent lists for 32 participants and 128 nodes: the public call that it names. And the lines of records that are
--- played on lists one after another, as `lines` of the definition has them on tables. Assumes nothing.
+-- What an action does to lent lists for N participants and M nodes: the public call that it names. And the lines of records that are
+-- played one after another on lists for 32 and 128, as `lines` of the definition has them on tables. Assumes nothing.
 use mathlib.Core.List.{List, [], _∷_, _++_}
 use Prim.Native.Nat.{ℕ, zero, suc}
 use lib.ListN.{take, drop}
@@ -13,11 +13,11 @@ abbrev pub keeping : List ℕ → Outcome → Outcome
 keeping places x = record { answer = x .answer; lent = x .lent; freed = places }
 
 -- an action on the lists, with a list for freed tokens; a broken record is refused with 13 and changes nothing
-unfoldable pub acts : Lent → List ℕ → Action → Outcome
-acts l places (Action.Step p) = stepLent 32 128 l p places
-acts l places Action.Register = keeping places (registerLent 32 128 l)
-acts l places (Action.Call p c) = keeping places (callLent 32 128 l p c)
-acts l places Action.Broken = record { answer = Answer.Refused 13; lent = l; freed = places }
+unfoldable pub acts : (N M : ℕ) → Lent → List ℕ → Action → Outcome
+acts N M l places (Action.Step p) = stepLent N M l p places
+acts N M l places Action.Register = keeping places (registerLent N M l)
+acts N M l places (Action.Call p c) = keeping places (callLent N M l p c)
+acts N M l places Action.Broken = record { answer = Answer.Refused 13; lent = l; freed = places }
 
 -- the line of an outcome: the freed tokens are at the front of their list
 abbrev pub lineFrom : Outcome → List ℕ
@@ -28,5 +28,5 @@ unfoldable pub linesOn : (fuel : ℕ) → List ℕ → Lent → List ℕ → Lis
 linesOn zero b l places = []
 linesOn (suc fuel) [] l places = []
 linesOn (suc fuel) (x ∷ b) l places =
-    let o = acts l places (actionIn (take 8 (x ∷ b))) in
+    let o = acts 32 128 l places (actionIn (take 8 (x ∷ b))) in
     lineFrom o ++ linesOn fuel (drop 8 (x ∷ b)) (o .lent) (o .freed)

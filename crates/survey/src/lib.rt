@@ -1,6 +1,7 @@
 // The survey: one report for each participant. Added by design: the Rust has nothing like it.
 //
-// What decides is here and works on values: the report of one participant, and the two refusals.
+// The numbers are decided by `report_of`, from the lists; a report is a struct, so that no count is taken for another. `fill_reports` only stores
+// them, one after another. The public call, which joins the check and the reports, is in `reclaimer`.
 use checks::Checked;
 use checks::damage;
 use checks::pick;
@@ -19,6 +20,9 @@ ghost use Rattle.definition.specs.Layout.{lent};
 ghost use Rattle.definition.specs.Ranges.{bitWords};
 ghost use Rattle.checks.specs.Refusals.{checkedOf};
 ghost use Rattle.survey.specs.Surveys.{blank, seen, tabulate, reportIn, surveyRefusal};
+
+// Words of a participant's row.
+const PARTICIPANT_WORDS: usize = 21;
 
 // Returns the state: 0 free, 1 registering, 2 registered, 3 deleted.
 fn state_of(free: bool, deleted: bool, registering: bool) -> u64
@@ -61,15 +65,16 @@ pub fn report_of(globals: &[u64], participants: &[u64], p: usize) -> Report
     requires { ⌜ (5 + p / 64 < length (now globals)) × (p * 21 + 21 ≤ length (now participants)) ⌝ }
     ensures { λ r. ⌜ r ≡ reportIn (now (globals .entry)) (now (participants .entry)) p ⌝ }
 {
+    // any number of slots that p is one of will do
     let free = slot_free(globals, p + 1, p);
-    let next = participants[p * 21 + 1];
+    let next = participants[p * PARTICIPANT_WORDS + 1];
     let deleted = is_tagged(next);
     let o = load(participants, p);
     let counts = o.counts;
     let place = o.place;
     let registering = is_register(place);
     let global = Epoch(globals[0]);
-    let word = Epoch(participants[p * 21]);
+    let word = Epoch(participants[p * PARTICIPANT_WORDS]);
     seen(Report {
         state: state_of(free, deleted, registering),
         guards: counts.guards,
@@ -91,7 +96,7 @@ pub fn fill_reports(globals: &[u64], participants: &[u64], n: usize, list: &mut 
     }
 }
 
-// Checks a survey into a list of so many places: 2, then 1.
+// Checks a survey into a list of so many places: 2, also where these are not `n`, then 1.
 pub fn check_survey(
     n: usize,
     m: usize,

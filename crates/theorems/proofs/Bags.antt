@@ -27,7 +27,8 @@ use Rattle.theorems.proofs.Inv.{Inv, leftOf, afterOf, goes, goesGhost, 
 use Rattle.theorems.proofs.Safety.{each-map, each-at, sum-at, in-bag-occurs, node-use-unfreed, node-unfreed}
 use Rattle.theorems.proofs.Linked.{underPin, under-pin, followed-own}
 use Rattle.theorems.proofs.Moves.{workOf, Deferred, Kind}
-use Rattle.theorems.proofs.Balance.{freedItems, Fit, kind-step, step-fits, kind-call, call-fits, free-quiet}
+use Rattle.theorems.proofs.Nodes.{kind-of, call-of}
+use Rattle.theorems.proofs.Balance.{freedItems, Fit, step-fits, call-fits, free-quiet}
 use Rattle.theorems.proofs.Uses.{popped-next, unlinked-in, linking, low-head, spare-placed, taken-placed, is-same, is-other, next-head, nodes-hit}
 use Rattle.theorems.proofs.Types.{Epoch, Slot, Node, Ptr, Cursor, Item, Try, Pops, Deferring, Then, WalkAt, PopAt, PushAt, Place, Participant, Work, After, Call}
 
@@ -107,7 +108,7 @@ freesOf (Work.PutThenFree i n) = some (n .0)
 freesOf (Work.Seal n e) = none
 
 -- what the item that waits belongs to has popped: in a push, however far it is
-push-popped : (f : Then) (a b : PushAt) → poppedNode (Place.Push f a) ≡ poppedNode (Place.Push f b)
+pub push-popped : (f : Then) (a b : PushAt) → poppedNode (Place.Push f a) ≡ poppedNode (Place.Push f b)
 unfolding poppedNode
 push-popped (Then.Defer (Deferring.Token token)) a b = refl
 push-popped (Then.Defer (Deferring.Slot t c succ)) a b = refl
@@ -426,12 +427,12 @@ pub bagged-step : (N M p : ℕ) (m : Machine) (g : Ghost) → Inv N M m g → St
 unfolding stepped steppedGhost goesGhost
 bagged-step N M p m g inv steps =
     bagged-goes N M p m g inv (steps .here) (leftOf M p m) (afterOf M p m)
-    (kind-step M p m) (step-fits N M p m g inv steps)
+    (kind-of N M p m g inv steps) (step-fits N M p m g inv steps)
 
 pub bagged-call : (N M p : ℕ) (c : Call) (m : Machine) (g : Ghost) → Inv N M m g → Calls N M p c m → Bagged N M (called N p c m) (calledGhost N p c m g)
 unfolding called calledGhost goes
 bagged-call N M p c m g inv calls =
-    bagged-goes N M p m g inv (calls .here) (m .shared) (opens N c (m .own p)) (kind-call N M p c m g inv calls) (call-fits N M p c m g inv calls)
+    bagged-goes N M p m g inv (calls .here) (m .shared) (opens N c (m .own p)) (call-of N M p c m g inv calls) (call-fits N M p c m g inv calls)
 
 -- a slot that registers has popped nothing, before or after
 new-popped : (n : ℕ) → is n (poppedNode (newParticipant .place)) ≡ 0

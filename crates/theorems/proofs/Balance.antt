@@ -9,7 +9,6 @@ use mathlib.Core.List.{List, [], _∷_, _++_}
 use mathlib.Core.Option.{Option, none, some}
 use Prim.Native.Nat.{ℕ, _+_, _-_, _<_}
 use native.Mathlib.Omega.{arith}
-use lib.Dec.{eqb}
 use Rattle.definition.specs.Base.{branch, Tab, put, sum, least}
 use Rattle.definition.specs.Bags.{tokens}
 use Rattle.definition.specs.Flow.{waiting}
@@ -18,12 +17,14 @@ use Rattle.definition.specs.Calls.{opens}
 use Rattle.definition.specs.Public.{takesNode, newParticipant}
 use Rattle.definition.proofs.Base.{put-back, sum-ext, sum-put, least-marked}
 use Rattle.definition.proofs.Within.{PlaceIn, WalkIn, PopIn, ThenIn}
+use Rattle.theorems.specs.Waiting as W
 use Rattle.theorems.proofs.Machine.{Machine, Sealed, withAside, withOwn, withShared, works, followed, zip-put}
-use Rattle.theorems.proofs.Ghost.{Use, NodeUse, Ghost, Turn, turnOf}
-use Rattle.theorems.proofs.Invariant.{waitingItem, sameItem, times, waits, has, occurs, isSpare, Fine}
-use Rattle.theorems.proofs.Inv.{Inv, ruleOf, wonOf, leftOf, afterOf, goes, stepped, Steps, called, Calls, registered, Registers}
+use Rattle.theorems.proofs.Ghost.{Use, Ghost, Turn}
+use Rattle.theorems.proofs.Invariant.{waitingItem, sameItem, times, waits, has, occurs, Fine}
+use Rattle.theorems.proofs.Inv.{Inv, wonOf, leftOf, afterOf, goes, stepped, Steps, called, Calls, registered, Registers}
 use Rattle.theorems.proofs.Linked.{free-unused}
-use Rattle.theorems.proofs.Moves.{gained, gainedBy, Bare, workOf, Deferred, Kind, step-kind, call-kind}
+use Rattle.theorems.proofs.Nodes.{spare-is, kind-of, call-of}
+use Rattle.theorems.proofs.Moves.{gained, gainedBy, Bare, workOf, Deferred, Kind}
 use Rattle.theorems.proofs.Types.{Node, Item, Deferring, Then, PushAt, Place, Participant, Work, After, Call}
 
 -- the items that a work frees: those of the bag of the popped node
@@ -174,25 +175,8 @@ balance-goes N M p m s a x hp kind fit =
 -- ---- a step
 
 -- what a step of p retires
-unfoldable pub gainedOf : (M p : ℕ) → Machine → Option Item
+abbrev gainedOf : (M p : ℕ) → Machine → Option Item
 gainedOf M p m = gained (m .own p .place) (wonOf M p m) (m .shared .queueTail)
-
--- the spare node of a step
-abbrev pub spareOf : ℕ → Machine → Node
-spareOf M m = record { 0 = least M (m .nodeFree) }
-
--- a node whose free bit is set is spare
-pub is-spare : (u : NodeUse) → isSpare u ≡ true → u ≡ NodeUse.spare
-unfolding isSpare
-is-spare NodeUse.spare h = refl
-is-spare NodeUse.taken h = absurd (true≢false (sym h))
-is-spare NodeUse.placed h = absurd (true≢false (sym h))
-
--- which kind it is
-pub kind-step : (M p : ℕ) (m : Machine) → Kind p (spareOf M m) (m .shared) (leftOf M p m) (m .own p .place) (turnOf p (m .own p .place) (wonOf M p m)) (gainedOf M p m)
-    (afterOf M p m .work) (afterOf M p m .participant .place)
-unfolding leftOf wonOf gainedOf afterOf ruleOf
-kind-step M p m = step-kind p (spareOf M m) (m .shared) (λ n. m .bag (n .0) .epoch) (m .own p) (m .own p .place)
 
 module _ (N M p : ℕ) (m : Machine) (g : Ghost) (inv : Inv N M m g) (steps : Steps N M p m) where
   -- a node that is taken is marked free and holds nothing
@@ -200,35 +184,32 @@ module _ (N M p : ℕ) (m : Machine) (g : Ghost) (inv : Inv N M m g) (steps : St
   spare-empty h =
       let lt = steps .spare h .0 in
       let marked = least-marked M (m .nodeFree) lt in
-      (lt, (marked, inv .bagged .spare (least M (m .nodeFree)) lt (is-spare (g .nodeUse (least M (m .nodeFree))) (sym (inv .used .bits (least M (m .nodeFree)) lt) ∙ marked))))
+      (lt, (marked, inv .bagged .spare (least M (m .nodeFree)) lt (spare-is (g .nodeUse (least M (m .nodeFree))) (sym (inv .used .bits (least M (m .nodeFree)) lt) ∙ marked))))
 
   -- the work of a step fits
   pub step-fits : Fit M (m .nodeFree) (m .bag) (afterOf M p m .work)
-  step-fits = kind-fits N M (m .nodeFree) (m .bag) (kind-step M p m) (inv .ranged .places p (steps .here)) spare-empty
+  step-fits = kind-fits N M (m .nodeFree) (m .bag) (kind-of N M p m g inv steps) (inv .ranged .places p (steps .here)) spare-empty
 
   -- THE BALANCE of a step
   pub balance-step : (x : Item) → occurs N M (stepped M p m) x + times x (freedItems (afterOf M p m .work) (m .bag)) ≡ occurs N M m x + waits x (gainedOf M p m)
   unfolding stepped
-  balance-step x = balance-goes N M p m (leftOf M p m) (afterOf M p m) x (steps .here) (kind-step M p m) step-fits
+  balance-step x = balance-goes N M p m (leftOf M p m) (afterOf M p m) x (steps .here) (kind-of N M p m g inv steps) step-fits
 
 -- ---- a call
 
 module _ (N M p : ℕ) (c : Call) (m : Machine) (g : Ghost) (inv : Inv N M m g) (calls : Calls N M p c m) where
-  pub kind-call : Kind p (spareOf M m) (m .shared) (m .shared) (m .own p .place) Turn.quiet (gainedBy c) (opens N c (m .own p) .work) (opens N c (m .own p) .participant .place)
-  kind-call = call-kind p (spareOf M m) (m .shared) N c (m .own p) (m .own p .place) (calls .resting)
-
   -- a call takes no node
   takes-none : takesNode (m .own p .place) ≡ false
   takes-none = ap takesNode (calls .resting) ∙ (unfold takesNode in refl)
 
   -- its work fits
   pub call-fits : Fit M (m .nodeFree) (m .bag) (opens N c (m .own p) .work)
-  call-fits = kind-fits N M (m .nodeFree) (m .bag) kind-call (inv .ranged .places p (calls .here)) (λ h. absurd (true≢false (sym h ∙ takes-none)))
+  call-fits = kind-fits N M (m .nodeFree) (m .bag) (call-of N M p c m g inv calls) (inv .ranged .places p (calls .here)) (λ h. absurd (true≢false (sym h ∙ takes-none)))
 
   -- THE BALANCE of a call: a defer brings its token
   pub balance-call : (x : Item) → occurs N M (called N p c m) x + times x (freedItems (opens N c (m .own p) .work) (m .bag)) ≡ occurs N M m x + waits x (gainedBy c)
   unfolding called goes
-  balance-call x = balance-goes N M p m (m .shared) (opens N c (m .own p)) x (calls .here) kind-call call-fits
+  balance-call x = balance-goes N M p m (m .shared) (opens N c (m .own p)) x (calls .here) (call-of N M p c m g inv calls) call-fits
 
 -- ---- a registering: the record of a free slot held nothing, and holds nothing afterwards
 
@@ -265,14 +246,9 @@ module _ (N M p : ℕ) (m : Machine) (g : Ghost) (inv : Inv N M m g) (registers 
 
 -- ---- tokens: none is lost, and only a defer brings one
 
--- how often a token is in a list of tokens
-unfoldable pub tokenTimes : ℕ → List ℕ → ℕ
-tokenTimes t [] = 0
-tokenTimes t (u ∷ l) = branch (eqb t u) 1 0 + tokenTimes t l
-
 -- the tokens that come out of a freed bag are those that stood in it
-pub tokens-times : (t : ℕ) (l : List Item) → tokenTimes t (tokens l) ≡ times (Item.Token t) l
-unfolding tokenTimes tokens times sameItem branch
+pub tokens-times : (t : ℕ) (l : List Item) → W.times t (tokens l) ≡ times (Item.Token t) l
+unfolding W.times tokens times sameItem branch
 tokens-times t [] = refl
 tokens-times t (Item.Token u ∷ l) = rw (tokens-times t l)
 tokens-times t (Item.Node n ∷ l) = omega (arith, tokens-times t l)
@@ -299,16 +275,16 @@ no-token t (Kind.accepts h k) ne = absurd (ne refl)
 
 -- after a step: what occurs and what was freed is what occurred
 pub tokens-step : (N M p : ℕ) (m : Machine) (g : Ghost) → Inv N M m g → Steps N M p m → (t : ℕ)
-    → occurs N M (stepped M p m) (Item.Token t) + tokenTimes t (tokens (freedItems (afterOf M p m .work) (m .bag))) ≡ occurs N M m (Item.Token t)
+    → occurs N M (stepped M p m) (Item.Token t) + W.times t (tokens (freedItems (afterOf M p m .work) (m .bag))) ≡ occurs N M m (Item.Token t)
 tokens-step N M p m g inv steps t =
     let a = balance-step N M p m g inv steps (Item.Token t) in
     let b = tokens-times t (freedItems (afterOf M p m .work) (m .bag)) in
-    let c = no-token t (kind-step M p m) (steps .running) in
+    let c = no-token t (kind-of N M p m g inv steps) (steps .running) in
     omega arith
 
 -- after a call: and what was accepted
 pub tokens-call : (N M p : ℕ) (c : Call) (m : Machine) (g : Ghost) → Inv N M m g → Calls N M p c m → (t : ℕ)
-    → occurs N M (called N p c m) (Item.Token t) + tokenTimes t (tokens (freedItems (opens N c (m .own p) .work) (m .bag))) ≡ occurs N M m (Item.Token t) + acceptedBy t c
+    → occurs N M (called N p c m) (Item.Token t) + W.times t (tokens (freedItems (opens N c (m .own p) .work) (m .bag))) ≡ occurs N M m (Item.Token t) + acceptedBy t c
 unfolding acceptedBy
 tokens-call N M p c m g inv calls t =
     let a = balance-call N M p c m g inv calls (Item.Token t) in

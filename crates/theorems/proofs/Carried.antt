@@ -1,22 +1,19 @@
 -- The epochs that places carry, for any property of them: where a step's new place has them from. A walk's epoch is the one that it loaded; a
 -- collect's pops have the walk's, or the successor that was stored; a word about to be stored has the epoch just loaded. Assumes nothing.
 use mathlib.Core.Path.{_≡_, refl}
-use mathlib.Core.Bool.{Bool, true, false}
-use mathlib.Core.Option.{Option, none, some}
+use mathlib.Core.Bool.{Bool}
 use Prim.Native.Nat.{ℕ, _-_}
 use Rattle.epoch.specs.Epoch.{pinned, successor}
 use Rattle.definition.specs.Base.{branch}
 use Rattle.definition.specs.Flow.{collectSteps, on, done, also, finalize, collected, pops, advanced, walk, placed, defer, pushed}
 use Rattle.definition.specs.Tables.{Shared, read}
-use Rattle.definition.specs.Rule.{Rule}
 use Rattle.definition.specs.List.{insert, delete, iterate}
 use Rattle.definition.specs.Queue.{sealBag, push, pop}
 use Rattle.definition.specs.Internal.{pinEpoch, pinWord, pinCounted, unpinWord, repin, advanceEpoch, advanceWord, advanceStore, finalWord, rule}
-use Rattle.definition.specs.Calls.{begins}
 use Rattle.definition.proofs.Base.{branch-ind}
 use Rattle.theorems.proofs.Leads.{Leads}
 use Rattle.theorems.proofs.Invariant.{Of, walkEpoch, popEpoch, storeEpoch}
-use Rattle.theorems.proofs.Types.{Epoch, Slot, Node, Ptr, Pred, Cursor, Owner, Try, Pops, Deferring, Then, RegisterAt, RepinAt, WalkAt, PopAt, PushAt, Place, Participant, Work, After, Call}
+use Rattle.theorems.proofs.Types.{Epoch, Slot, Node, Ptr, Pred, Owner, Try, Deferring, Then, RegisterAt, RepinAt, WalkAt, PopAt, PushAt, Place, Participant, Work, After}
 
 -- where the epochs come from, for a property P of a walk's, Q of a pop's and R of a stored one
 pub record Sources (P Q R : ℕ → Type 0) (pl : Place) (s : Shared) : Type 0 where

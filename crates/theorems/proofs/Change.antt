@@ -1,19 +1,19 @@
 -- What a step can do to the shared words: thirteen changes, each with the place that makes it. A clause about everybody else goes by these and
 -- not by the thirty places. Assumes nothing.
 use mathlib.Core.Path.{_≡_, refl}
-use mathlib.Core.Bool.{Bool, true, false}
+use mathlib.Core.Bool.{Bool}
 use Prim.Native.Nat.{ℕ}
 use Rattle.epoch.specs.Epoch.{starting, pinned, successor}
 use Rattle.definition.specs.Base.{branch}
 use Rattle.definition.specs.Links.{null, link, tagged, pointer}
 use Rattle.definition.specs.Tables.{Shared, read, write}
-use Rattle.definition.specs.Rule.{Rule, asks, follows, sees, leaves}
+use Rattle.definition.specs.Rule.{asks, sees, leaves}
 use Rattle.definition.specs.List.{insert, delete, iterate, predWord}
 use Rattle.definition.specs.Queue.{push, pop}
 use Rattle.definition.specs.Internal.{pinEpoch, pinWord, unpinWord, repin, advanceEpoch, advanceWord, advanceStore, finalWord, rule}
 use Rattle.theorems.proofs.Leads.{Leads, leads}
 use Rattle.theorems.proofs.Ghost.{Turn, turnOf}
-use Rattle.theorems.proofs.Types.{Epoch, Slot, Node, Ptr, Pred, Cursor, Owner, Try, Pops, Then, RegisterAt, RepinAt, WalkAt, PopAt, PushAt, Place, Participant, Word, After}
+use Rattle.theorems.proofs.Types.{Epoch, Node, Ptr, Cursor, Owner, Try, Pops, Then, RegisterAt, RepinAt, WalkAt, PopAt, PushAt, Place, Participant, Word, After}
 
 -- the places that move the queue's tail, from a node to its next
 pub data MovesTail : Place → (from to : ℕ) → Type 0 where

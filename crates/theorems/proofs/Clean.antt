@@ -22,8 +22,8 @@ use Rattle.definition.specs.Calls.{opens}
 use Rattle.definition.specs.Ranges.{fresh}
 use Rattle.definition.specs.Step.{Out, putItem, sealInto, inBag, freeBag, settle, follow, ruleAt, takeStep}
 use Rattle.definition.specs.Public.{the, newParticipant, enrolled}
-use Rattle.definition.proofs.Opens.{opens-in}
 use Rattle.definition.proofs.Base.{branch-ind, put-ind, put-same, put-other, both}
+use Rattle.definition.proofs.Opens.{opens-in}
 use Rattle.definition.proofs.Within.{ItemIn, WordIn, AskIn, WorkIn, AfterIn, asks-in}
 use Rattle.theorems.specs.OnTables.{Event, does, after, advances}
 use Rattle.theorems.proofs.Machine.{view, Fits}

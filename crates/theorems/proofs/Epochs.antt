@@ -6,31 +6,31 @@ use mathlib.Core.Logic.{_≢_}
 use mathlib.Core.Bool.{Bool, true, false, _&&_, not, true≢false}
 use mathlib.Core.List.{List, [], _∷_}
 use mathlib.Core.Option.{Option, none, some}
-use Prim.Native.Nat.{ℕ, _+_, _*_, _/_, _%_, _^_, _≤_, _<_}
+use Prim.Native.Nat.{ℕ, _+_, _^_, _≤_, _<_}
 use native.Mathlib.Omega.{arith}
-use lib.Dec.{eqb, ltb, leb}
-use borrow.Author.Tests.{eq-eqb, eqb-true, leb-true, ltb-true, ltb-false, leb-false}
+use lib.Dec.{eqb, ltb}
+use borrow.Author.Tests.{eq-eqb, eqb-true, ltb-true, ltb-false}
 use Rattle.epoch.specs.Epoch.{starting, isPinned, pinned, unpinned, successor}
-use Rattle.epoch.proofs.Laws.{isPinned-starting, isPinned-pinned, pinned-is, unpinned-le, le-unpinned, unpinned-even, successor-is}
+use Rattle.epoch.proofs.Laws.{isPinned-starting}
 use Rattle.definition.specs.Base.{branch, Tab, put, least}
-use Rattle.definition.specs.Rule.{asks, follows, sees, leaves}
+use Rattle.definition.specs.Rule.{asks, leaves}
 use Rattle.definition.specs.Tables.{Shared, write}
 use Rattle.definition.specs.Links.{pointer, isTagged}
 use Rattle.definition.specs.List.{predWord}
 use Rattle.definition.specs.Internal.{advanceStore, advanceEpoch, rule}
 use native.Mathlib.Nat.{le-refl}
-use Rattle.definition.proofs.Base.{branch-ind, branch-true, branch-false, same?, put-ind, put-same, put-other}
+use Rattle.definition.proofs.Base.{branch-false, same?, put-ind, put-same, put-other}
 use Rattle.theorems.proofs.Machine.{Machine}
-use Rattle.theorems.proofs.Ghost.{Use, NodeUse, Ghost, Turn, turnOf, num, G, low, useTurned, goneTurned, useWorked, slotsFreed, gpinAfter, moved}
-use Rattle.theorems.proofs.Change.{Change, changes}
+use Rattle.theorems.proofs.Ghost.{Use, Ghost, Turn, turnOf, num, G, useTurned, goneTurned, useWorked, slotsFreed, gpinAfter, moved}
+use Rattle.theorems.proofs.Change.{Change}
 use Rattle.theorems.proofs.Leads.{leads}
 use Rattle.theorems.proofs.Frames.{own-goes, epoch-goes, word-goes}
 use Rattle.theorems.proofs.Live.{unlinked-word}
 use Rattle.theorems.proofs.Carried.{Sources, Carried, CarriedAfter, carries}
-use Rattle.theorems.proofs.Invariant.{Of, walkEpoch, popEpoch, storeEpoch, Unseen, Pinned, Epochs, Live, Busy, Registers, Fine, InList}
-use Rattle.theorems.proofs.Inv.{Inv, Steps, ruleOf, wonOf, leftOf, afterOf, goes, goesGhost, stepped, steppedGhost}
+use Rattle.theorems.proofs.Invariant.{Of, walkEpoch, popEpoch, storeEpoch, Unseen, Pinned, Live, Registers, Fine, InList}
+use Rattle.theorems.proofs.Inv.{Inv, Steps, ruleOf, wonOf, leftOf, afterOf, goesGhost, stepped, steppedGhost}
 use Rattle.theorems.proofs.Records.{chg, mine, Mine, word-kept, fine-registers, records-step}
-use Rattle.theorems.proofs.Types.{Epoch, Node, Item, Owner, Try, Pops, Pred, Deferring, Then, RepinAt, PushAt, Place, Participant, Word, Work, After}
+use Rattle.theorems.proofs.Types.{Epoch, Node, Item, Owner, Try, Pred, Deferring, Then, RepinAt, PushAt, Place, Participant, Work, After}
 
 -- ---- numbers of epochs
 
@@ -311,9 +311,6 @@ module _ (N M p : ℕ) (m : Machine) (g : Ghost) (inv : Inv N M m g) (st : Steps
   pub up : Up (m′ .shared .globalEpoch)
   unfolding stepped
   up = rw (epoch-goes p m s′ a) (up-by (turnOf p pl (wonOf M p m)) s′ c)
-
-  abbrev G′ : ℕ
-  G′ = G m′
 
   pub mono : G m ≤ G m′
   unfolding G

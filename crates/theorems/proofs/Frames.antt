@@ -1,17 +1,13 @@
 -- What a move leaves alone: the parts of the machine after an access that left the shared words s and what follows it, field by field.
 -- Assumes nothing.
 use mathlib.Core.Path.{_≡_, refl, ap, sym, _∙_}
-use mathlib.Core.Logic.{_≢_}
-use mathlib.Core.Bool.{Bool, true, false}
-use mathlib.Core.List.{List, [], _∷_, _++_}
-use Prim.Native.Nat.{ℕ, _+_, _≤_, _<_}
+use mathlib.Core.List.{List, [], _∷_}
+use Prim.Native.Nat.{ℕ}
 use native.Mathlib.Omega.{arith}
-use lib.Dec.{eqb}
 use lib.ListN.{length, length-append}
-use Rattle.definition.specs.Base.{branch, Tab, put}
-use Rattle.definition.specs.Bags.{freeSlots, freeNodes}
+use Rattle.definition.specs.Base.{Tab, put}
 use Rattle.definition.specs.Tables.{Shared, write}
-use Rattle.definition.proofs.Base.{same?, put-ind, put-same, put-other}
+use Rattle.definition.proofs.Base.{put-ind}
 use Rattle.theorems.proofs.Machine.{Machine, Fits, works, followed}
 use Rattle.theorems.proofs.Inv.{goes}
 use Rattle.theorems.proofs.Live.{bagAfter}
@@ -33,13 +29,6 @@ module _ (p : ℕ) (m : Machine) where
   works-epoch (Work.PutThenFree i n) = refl
   works-epoch (Work.Seal n e) = refl
 
-  works-listHead : (w : Work) → works p w m .shared .listHead ≡ m .shared .listHead
-  unfolding works write
-  works-listHead Work.Nothing = refl
-  works-listHead (Work.Put i) = refl
-  works-listHead (Work.PutThenFree i n) = refl
-  works-listHead (Work.Seal n e) = refl
-
   works-entryNext : (w : Work) → works p w m .shared .entryNext ≡ m .shared .entryNext
   unfolding works write
   works-entryNext Work.Nothing = refl
@@ -47,26 +36,19 @@ module _ (p : ℕ) (m : Machine) where
   works-entryNext (Work.PutThenFree i n) = refl
   works-entryNext (Work.Seal n e) = refl
 
-  works-word : (w : Work) → works p w m .shared .word ≡ m .shared .word
+  pub works-word : (w : Work) → works p w m .shared .word ≡ m .shared .word
   unfolding works write
   works-word Work.Nothing = refl
   works-word (Work.Put i) = refl
   works-word (Work.PutThenFree i n) = refl
   works-word (Work.Seal n e) = refl
 
-  works-queueHead : (w : Work) → works p w m .shared .queueHead ≡ m .shared .queueHead
+  pub works-queueHead : (w : Work) → works p w m .shared .queueHead ≡ m .shared .queueHead
   unfolding works write
   works-queueHead Work.Nothing = refl
   works-queueHead (Work.Put i) = refl
   works-queueHead (Work.PutThenFree i n) = refl
   works-queueHead (Work.Seal n e) = refl
-
-  works-queueTail : (w : Work) → works p w m .shared .queueTail ≡ m .shared .queueTail
-  unfolding works write
-  works-queueTail Work.Nothing = refl
-  works-queueTail (Work.Put i) = refl
-  works-queueTail (Work.PutThenFree i n) = refl
-  works-queueTail (Work.Seal n e) = refl
 
   works-held : (w : Work) (q : ℕ) → works p w m .held q ≡ put (m .held) p (bagAfter w (m .held p)) q
   unfolding works bagAfter
@@ -87,10 +69,6 @@ module _ (p : ℕ) (m : Machine) (s : Shared) (a : After) where
   unfolding goes followed
   epoch-goes = works-epoch p seen (a .work)
 
-  pub listHead-goes : goes p m s a .shared .listHead ≡ s .listHead
-  unfolding goes followed
-  listHead-goes = works-listHead p seen (a .work)
-
   pub entryNext-goes : goes p m s a .shared .entryNext ≡ s .entryNext
   unfolding goes followed
   entryNext-goes = works-entryNext p seen (a .work)
@@ -98,14 +76,6 @@ module _ (p : ℕ) (m : Machine) (s : Shared) (a : After) where
   pub word-goes : goes p m s a .shared .word ≡ s .word
   unfolding goes followed
   word-goes = works-word p seen (a .work)
-
-  pub queueHead-goes : goes p m s a .shared .queueHead ≡ s .queueHead
-  unfolding goes followed
-  queueHead-goes = works-queueHead p seen (a .work)
-
-  pub queueTail-goes : goes p m s a .shared .queueTail ≡ s .queueTail
-  unfolding goes followed
-  queueTail-goes = works-queueTail p seen (a .work)
 
   pub held-goes : (q : ℕ) → goes p m s a .held q ≡ put (m .held) p (bagAfter (a .work) (m .held p)) q
   unfolding goes followed

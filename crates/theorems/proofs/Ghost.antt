@@ -1,7 +1,6 @@
 -- What the proof remembers beside the machine: how each slot and node is used, the order of insertions and of links, and the global epoch at
 -- three kinds of moments. It is worked out from each move and never read by one. Epochs are numbers here: words halved. Assumes nothing.
-use mathlib.Core.Path.{_≡_}
-use mathlib.Core.Bool.{Bool, true, false, _&&_, not}
+use mathlib.Core.Bool.{Bool, _&&_, not}
 use mathlib.Core.List.{List, [], _∷_}
 use Prim.Native.Nat.{ℕ, _+_, _/_, min}
 use lib.Dec.{eqb, ltb, leb}
@@ -10,7 +9,7 @@ use Rattle.definition.specs.Base.{branch, Tab, put}
 use Rattle.definition.specs.Links.{index}
 use Rattle.definition.specs.Tables.{Shared}
 use Rattle.theorems.proofs.Machine.{Machine}
-use Rattle.theorems.proofs.Types.{Item, RegisterAt, RepinAt, WalkAt, PopAt, PushAt, Place, Work}
+use Rattle.theorems.proofs.Types.{Item, RegisterAt, WalkAt, PushAt, Place, Work}
 
 -- a slot is not in use, being registered, in the list, or out of it and not yet free
 pub data Use : Type 0 where

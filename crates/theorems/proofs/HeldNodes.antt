@@ -360,10 +360,6 @@ module _ (N M p : ℕ) (m : Machine) (g : Ghost) (inv : Inv N M m g) (st : Steps
   unfolding steppedGhost goesGhost moved
   step-gpin q h = gpin-kept (G m) (m .shared .word) (leftOf M p m .word) (g .gpin) q (word-kept p (m .own p .place) (m .shared) _ _ (step-change M p m) q h)
 
-  -- a node that is safe for a pinned participant stays safe
-  pub safe-node-stays : (d x : ℕ) → d < N → Pinned m d → SafeNode M g (m .shared) (g .gpin d) x → SafeNode M (steppedGhost M p m g) (stepped M p m .shared) (g .gpin d) x
-  safe-node-stays d x hd pinned h = safe-stays N M m (stepped M p m) g (steppedGhost M p m g) inv (onward-step N M p m g inv st) d hd pinned x h
-
   -- p itself, at a place of a pop or a push, and elsewhere
   own-queue : inQueue? (m .own p .place) ≡ true → NodesAt M (stepped M p m) (steppedGhost M p m g) (g .gpin p) (afterOf M p m .participant .place)
   unfolding afterOf leftOf ruleOf
@@ -393,7 +389,7 @@ module _ (N M p : ℕ) (m : Machine) (g : Ghost) (inv : Inv N M m g) (st : Steps
 
 module _ (N M p : ℕ) (c : Call) (m : Machine) (g : Ghost) (inv : Inv N M m g) (ca : Calls N M p c m) where
   -- a call stores no word
-  call-gpin : (q : ℕ) → calledGhost N p c m g .gpin q ≡ g .gpin q
+  pub call-gpin : (q : ℕ) → calledGhost N p c m g .gpin q ≡ g .gpin q
   unfolding calledGhost moved
   call-gpin q = gpin-kept (G m) (m .shared .word) (m .shared .word) (g .gpin) q refl
 
@@ -410,7 +406,7 @@ module _ (N M p : ℕ) (c : Call) (m : Machine) (g : Ghost) (inv : Inv N M m g) 
   call-place-other q ne = ap (λ (t : Tab Participant). t q .place) call-own ∙ ap (λ (o : Participant). o .place) (put-other (m .own) p q (opens N c (m .own p) .participant) ne)
 
   -- a call begins a place that holds nothing of nodes
-  call-bare : BareAt (opens N c (m .own p) .participant .place)
+  pub call-bare : BareAt (opens N c (m .own p) .participant .place)
   unfolding opens Bare
   call-bare = unfold Bare in (bare-begins c _)
 

@@ -1,30 +1,28 @@
 -- The whole invariant, and the moves that keep it: a step, a call, a registering, each as it changes the machine and the ghost. Each group of
 -- clauses is shown kept in a module of its own, from the whole invariant before the move. Assumes nothing.
-use mathlib.Core.Path.{_≡_, refl, ap, sym, _∙_}
+use mathlib.Core.Path.{_≡_, refl}
 use mathlib.Core.Logic.{_≢_}
-use mathlib.Core.Bool.{Bool, true, false, not}
-use mathlib.Core.List.{List, []}
+use mathlib.Core.Bool.{Bool, true, false}
+use mathlib.Core.List.{[]}
 use Prim.Native.Nat.{ℕ, _+_, _-_, _/_, _%_, _^_, _≤_, _<_}
-use lib.Dec.{eqb, ltb, leb}
 use Rattle.epoch.specs.Epoch.{starting}
-use Rattle.definition.specs.Base.{branch, Tab, put, count, least, listed}
+use Rattle.definition.specs.Base.{put, count, least, listed}
 use Rattle.definition.specs.Links.{null}
-use Rattle.definition.specs.Bags.{maxObjects, items}
+use Rattle.definition.specs.Bags.{maxObjects}
 use Rattle.definition.specs.Tables.{Shared, Tables, write}
 use Rattle.definition.specs.Tables as T
-use Rattle.definition.specs.Codec.{recordOf, participantOf}
+use Rattle.definition.specs.Codec.{participantOf}
 use Rattle.definition.specs.Rule.{Rule, asks, follows, sees, leaves}
 use Rattle.definition.specs.Internal.{rule}
-use Rattle.definition.specs.Calls.{maxCount, maxToken, lacks, countFull, tokenAbove, needs, begins, opens}
+use Rattle.definition.specs.Calls.{maxCount, lacks, countFull, tokenAbove, needs, opens}
 use Rattle.definition.specs.Step.{follow, ruleAt, takeStep}
-use Rattle.definition.specs.Public.{takesNode, the, newParticipant, enrolled}
-use Rattle.definition.proofs.Codec.{participant-back}
+use Rattle.definition.specs.Public.{takesNode, the, newParticipant}
 use Rattle.definition.proofs.Within.{PlaceIn, ItemIn}
-use Rattle.theorems.proofs.Machine.{Machine, view, withShared, withOwn, withHeld, withFree, followed, view-follow, map-put, put-id}
+use Rattle.theorems.proofs.Machine.{Machine, view, withShared, withOwn, withHeld, withFree, followed, view-follow}
 use Rattle.theorems.proofs.Length.{follows-fits, begins-fits, Fitting}
 use Rattle.theorems.proofs.Ghost.{Use, Ghost, Turn, turnOf, G, moved}
 use Rattle.theorems.proofs.Invariant.{Records, Epochs, Listed, Queued, Held, Used, Bagged, Roomy, Each}
-use Rattle.theorems.proofs.Types.{Slot, Node, Item, Place, Participant, Word, After, Call}
+use Rattle.theorems.proofs.Types.{Place, Word, After, Call}
 
 -- numbers in range: pointers, counts, bags, what places carry
 pub record Ranged (N M : ℕ) (m : Machine) : Type 0 where

@@ -2,22 +2,22 @@
 -- ghost. A record for each group; the modules that prove a group kept are named after it. Epochs are numbers: words halved. Assumes nothing.
 use mathlib.Core.Path.{_≡_}
 use mathlib.Core.Logic.{_≢_}
-use mathlib.Core.Bool.{Bool, true, false, _&&_}
+use mathlib.Core.Bool.{Bool, true, false}
 use mathlib.Core.List.{List, [], _∷_}
 use mathlib.Core.Option.{Option, none, some}
-use Prim.Native.Nat.{ℕ, _+_, _-_, _*_, _%_, _/_, _≤_, _<_}
-use lib.Dec.{eqb, ltb, leb}
+use Prim.Native.Nat.{ℕ, _+_, _-_, _*_, _≤_, _<_}
+use lib.Dec.{eqb, leb}
 use lib.ListN.{length}
 use Rattle.epoch.specs.Epoch.{isPinned}
 use Rattle.definition.specs.Base.{branch, Tab, sum, count}
-use Rattle.definition.specs.Links.{null, link, isTagged, isNull, index, pointee, pointer}
+use Rattle.definition.specs.Links.{link, isTagged, isNull, index, pointee, pointer}
 use Rattle.definition.specs.Bags.{maxObjects}
 use Rattle.definition.specs.Flow.{collectSteps, waiting}
 use Rattle.definition.specs.Internal.{collects}
 use Rattle.definition.specs.Tables.{Shared}
 use Rattle.theorems.proofs.Machine.{Machine}
 use Rattle.theorems.proofs.Ghost.{Use, NodeUse, Ghost, num, G, headOf, tailOf, low}
-use Rattle.theorems.proofs.Types.{Epoch, Slot, Node, Ptr, Pred, Cursor, Item, Owner, Try, Pops, Deferring, Then, RegisterAt, RepinAt, WalkAt, PopAt, PushAt, Place, Participant}
+use Rattle.theorems.proofs.Types.{Epoch, Slot, Node, Ptr, Pred, Item, Owner, Deferring, Then, RegisterAt, RepinAt, WalkAt, PopAt, PushAt, Place, Participant}
 
 -- ---- what a place carries, table by table
 

@@ -3,7 +3,7 @@
 -- global epoch is at most one ahead of any pin. So if the token is freed, the participant's word has changed since. Assumes nothing.
 use mathlib.Core.Path.{_≡_, refl, ap, sym, _∙_}
 use mathlib.Core.Logic.{_≢_}
-use mathlib.Core.Bool.{Bool, true, false, _&&_, true≢false}
+use mathlib.Core.Bool.{Bool, true, false}
 use mathlib.Core.List.{List, [], _∷_, _++_}
 use Prim.Native.Nat.{ℕ, _+_, _^_, _≤_, _<_}
 use native.Mathlib.Omega.{arith}
@@ -16,7 +16,7 @@ use Rattle.definition.specs.Calls.{opens}
 use Rattle.definition.specs.Ranges.{fresh}
 use Rattle.definition.specs.Step.{Out}
 use Rattle.definition.specs.Public.{enrolled}
-use Rattle.definition.proofs.Base.{same?, put-same, put-other}
+use Rattle.definition.proofs.Base.{same?, put-same, put-other, both}
 use Rattle.theorems.specs.OnTables.{Event, does, after, advances, retired, unchanged}
 use Rattle.theorems.specs.Waiting.{times}
 use Rattle.theorems.proofs.Machine.{Machine, view, withShared, works, followed}
@@ -26,13 +26,13 @@ use Rattle.theorems.proofs.Invariant as Inv′
 use Rattle.theorems.proofs.Inv.{Inv, Steps, Calls, afterOf, leftOf, goes, stepped, called, registered, registeredGhost, view-step, view-call}
 use Rattle.theorems.proofs.Safety.{popped-here, popped-in, in-bag-occurs}
 use Rattle.theorems.proofs.Nodes.{Sound, step-sound, call-sound, kind-of, call-of, none-of}
-use Rattle.theorems.proofs.Balance.{freedItems}
+use Rattle.theorems.proofs.Balance.{freedItems, tokens-times}
 use Rattle.theorems.proofs.Epochs.{mono, gpin-same}
 use Rattle.theorems.proofs.EpochsKept.{SealOf, kind-seal, gpin-step, word-step, gpin-call, epoch-call}
 use Rattle.theorems.proofs.Checks.{view-register}
 use Rattle.theorems.proofs.Runs.{Happens, happens, ghostAfter, inv-happens, stored-happens, epoch-does, sound-after, sound-fresh, fresh-epoch}
 use Rattle.theorems.proofs.Runs as R
-use Rattle.theorems.proofs.Tokens.{times-items, waiting-is, step-freed, call-freed, balanced}
+use Rattle.theorems.proofs.Tokens.{waiting-is, step-freed, call-freed, balanced}
 use Rattle.theorems.proofs.Types.{Item, Work, Call}
 
 -- ---- bags that hold the token were sealed late
@@ -122,11 +122,6 @@ module _ (N M d x r w : ℕ) where
         word = e ∙ k .word;
       }
 
-  -- a conjunction that holds
-  both : (a b : Bool) → (a && b) ≡ true → (a ≡ true) × (b ≡ true)
-  both true b h = (refl, h)
-  both false b h = absurd (true≢false (sym h))
-
   -- through many
   watched-after : (l : List Event) (t : Tables) → Watched N M d x r w t → G (view t) + advances N M l t < 2 ^ 62 → unchanged N M d l t ≡ true → Watched N M d x r w (after N M l t)
   unfolding after advances unchanged
@@ -162,9 +157,9 @@ module _ (N M d x r w : ℕ) where
     -- no event frees the token
     kept-happens : {v : Event} {o : Out} → Happens N M t v o → times x (o .freed) ≡ 0
     kept-happens (Happens.refuses n h) = unfold times in refl
-    kept-happens (Happens.goes {p = p} s) = rw (step-freed M p t, times-items x (freedItems (afterOf M p (view t) .work) (view t .bag)))
+    kept-happens (Happens.goes {p = p} s) = rw (step-freed M p t, tokens-times x (freedItems (afterOf M p (view t) .work) (view t .bag)))
         (kept-work p (s .here) (afterOf M p (view t) .work) (step-sound N M p (view t) (k .sound .ghost) (k .sound .inv) s))
-    kept-happens (Happens.calls {p = p} {c = c} ca) = rw (call-freed N p c t, times-items x (freedItems (opens N c (view t .own p) .work) (view t .bag)))
+    kept-happens (Happens.calls {p = p} {c = c} ca) = rw (call-freed N p c t, tokens-times x (freedItems (opens N c (view t .own p) .work) (view t .bag)))
         (kept-work p (ca .here) (opens N c (view t .own p) .work) (call-sound N M p c (view t) (k .sound .ghost) (k .sound .inv) ca))
     kept-happens (Happens.enrols {p = p} re) = unfold times enrolled in refl
 

@@ -1,17 +1,14 @@
 -- What a rule leads to: for each kind of access, the shared words that it leaves and what follows. A clause about steps is shown once for
 -- each place as a statement about its rule, and `leads` carries it over to the step. Assumes nothing.
-use mathlib.Core.Path.{_≡_, refl, sym}
+use mathlib.Core.Path.{_≡_, refl}
 use mathlib.Core.Bool.{Bool, true, false}
 use Prim.Native.Nat.{ℕ}
-use lib.Dec.{eqb}
 use borrow.Author.Tests.{eqb-true, eqb-false}
 use Rattle.definition.specs.Base.{branch}
 use Rattle.definition.specs.Links.{tagged}
 use Rattle.definition.specs.Tables.{Shared, read, write}
 use Rattle.definition.specs.Rule.{Rule, asks, follows, agrees, sees, leaves}
 use Rattle.definition.specs.declared.Word.{Word}
-use Rattle.definition.specs.declared.Ask.{Ask}
-use Rattle.definition.specs.declared.Seen.{Seen}
 use Rattle.definition.specs.declared.After.{After}
 
 -- Q of whether the access was done, of the shared words left and of what follows, whatever the access comes to

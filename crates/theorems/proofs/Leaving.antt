@@ -1,7 +1,8 @@
 -- From a fresh start bags leave the queue in the order in which they were linked (`in-order`). What hangs on the head, followed by next words, is
 -- just what was linked and has not left: an event that links puts the new node at its end, since the node it is linked to has no next and so is
--- the last; an event that moves the head takes its first; every other event leaves it, since a node that is taken is none of it. Leans on
--- Queue (positions: what hangs on the head is placed, and only the last has no next), Change (what a step can do) and Runs. Assumes nothing.
+-- the last; an event that moves the head takes its first; every other event leaves it, since a node that is taken is none of it. No event changes the
+-- bags of what hangs there (Popped). Leans on Queue (positions: what hangs on the head is placed, and only the last has no next), Change (what
+-- a step can do) and Runs. Assumes nothing.
 use mathlib.Core.Path.{_≡_, refl, ap, sym, _∙_}
 use mathlib.Core.Logic.{_≢_}
 use mathlib.Core.Bool.{Bool, true, false, _&&_, not, true≢false}
@@ -12,6 +13,7 @@ use lib.Dec.{eqb}
 use borrow.Author.Tests.{eqb-true, eq-eqb}
 use Rattle.definition.specs.Base.{Tab, put}
 use Rattle.definition.specs.Links.{null, link, isNull, index, pointer}
+use Rattle.definition.specs.Bags.{items}
 use Rattle.definition.specs.Tables.{Shared, Tables, write}
 use Rattle.definition.specs.List.{predWord}
 use Rattle.definition.specs.Calls.{opens}
@@ -21,18 +23,20 @@ use Rattle.definition.proofs.Base.{same?, branch-ind, branch-true, branch-false
 use Rattle.definition.proofs.Codec.{link-not-null, index-link}
 use Rattle.definition.proofs.Within.{PlaceIn, PushIn}
 use Rattle.theorems.specs.OnTables.{Event, does, after, advances, links, leaves, InOrder}
-use Rattle.theorems.specs.Order.{turns, linked, left, Hangs}
+use Rattle.theorems.specs.Order.{turns, linked, left, bags, Hangs}
 use Rattle.theorems.proofs.Machine.{Machine, view, withShared, works, followed}
 use Rattle.theorems.proofs.Ghost.{NodeUse, Ghost, Turn, G, headOf, tailOf}
 use Rattle.theorems.proofs.Invariant.{Of, takenNode, SafeNode, HoldsAt, HoldsPop, HoldsPush}
 use Rattle.theorems.proofs.Change.{Change}
 use Rattle.theorems.proofs.Inv.{Inv, Steps, Calls, leftOf, afterOf, goes, stepped, called, registered, view-step, view-call}
+use Rattle.theorems.proofs.Frames.{works-queueHead}
 use Rattle.theorems.proofs.Linked.{step-change}
 use Rattle.theorems.proofs.Queue.{Lined, spare≢placed, taken≢placed, spare≢taken, goes-to}
 use Rattle.theorems.proofs.Nodes.{lined, head-in, null-is, worked-next, step-turned, step-sound, call-sound, still}
 use Rattle.theorems.proofs.Checks.{view-register}
-use Rattle.theorems.proofs.Runs.{Happens, happens, sound-does, epoch-does, sound-fresh, fresh-epoch}
+use Rattle.theorems.proofs.Runs.{Happens, happens, ghostAfter, inv-happens, stored-happens, epoch-does, sound-fresh, fresh-epoch}
 use Rattle.theorems.proofs.Runs as R
+use Rattle.theorems.proofs.Popped.{Popped, popped-start, popped-happens, bag-happens}
 use Rattle.theorems.proofs.Types.{Node, Pred, Pops, Then, PopAt, PushAt, Place, Word, Work, Call}
 
 -- ---- lists
@@ -170,13 +174,6 @@ record Settled (g : Ghost) (s s′ : Shared) : Type 0 where
   head : s′ .queueHead ≡ s .queueHead
   turn : (s₀ : Shared) (x : ℕ) → turns s₀ s x ≡ false → turns s₀ s′ x ≡ false
 
-work-head : (p : ℕ) (m : Machine) (s : Shared) (w : Work) → works p w (withShared s m) .shared .queueHead ≡ s .queueHead
-unfolding works write
-work-head p m s Work.Nothing = refl
-work-head p m s (Work.Put i) = refl
-work-head p m s (Work.PutThenFree i n) = refl
-work-head p m s (Work.Seal n e) = refl
-
 work-turn : (p : ℕ) (m : Machine) (s : Shared) (w : Work) (s₀ : Shared) (x : ℕ) → turns s₀ s x ≡ false → turns s₀ (works p w (withShared s m) .shared) x ≡ false
 unfolding works write turns
 work-turn p m s Work.Nothing s₀ x h = h
@@ -296,7 +293,7 @@ module _ (N M p : ℕ) (m : Machine) (g : Ghost) (inv : Inv N M m g) (l : List �
   passed-step st = passed N M p m g inv (st .here) l hangs (leftOf M p m) _
       (record {
         kept = worked-next N M p m g inv (st .here) _ _ (step-turned N M p m g inv st) (afterOf M p m .work) (step-sound N M p m g inv st);
-        head = work-head p m (leftOf M p m) (afterOf M p m .work);
+        head = works-queueHead p (withShared (leftOf M p m) m) (afterOf M p m .work);
         turn = work-turn p m (leftOf M p m) (afterOf M p m .work);
       }) _ (step-change M p m)
 
@@ -306,7 +303,7 @@ module _ (N M p : ℕ) (m : Machine) (g : Ghost) (inv : Inv N M m g) (l : List �
   passed-call c ca = passed-quiet N M p m g inv (ca .here) l hangs (m .shared) _
       (record {
         kept = worked-next N M p m g inv (ca .here) _ _ (still N M p c m g inv ca) (opens N c (m .own p) .work) (call-sound N M p c m g inv ca);
-        head = work-head p m (m .shared) (opens N c (m .own p) .work);
+        head = works-queueHead p m (opens N c (m .own p) .work);
         turn = work-turn p m (m .shared) (opens N c (m .own p) .work);
       }) refl refl
 
@@ -325,24 +322,52 @@ module _ (N M : ℕ) (t : Tables) (g : Ghost) (inv : Inv N M (view t) g) (l : Li
 
 -- ---- a run
 
--- from tables on whose head a list hangs: that list and then what is linked is what leaves and then what hangs on the head
+-- bags of two lists of nodes, one after the other
+bags-more : (t : Tables) (a b : List ℕ) → bags t (a ++ b) ≡ bags t a ++ bags t b
+unfolding bags
+bags-more t [] b = refl
+bags-more t (n ∷ a) b = λ i. record { node = n; seal = t .bag n .epoch; holds = items (t .bag n .len) (t .bag n .deferreds) } ∷ bags-more t a b i
+
+module _ (N M : ℕ) (t t′ : Tables) (g : Ghost) (inv : Inv N M (view t) g)
+    (same : (x : ℕ) → g .nodeUse x ≡ NodeUse.placed → g .pos (headOf (t .shared)) < g .pos x → view t′ .bag x ≡ view t .bag x) where
+  -- bags that hang on a node no earlier than the head are as they were
+  bags-stay : (n : ℕ) (l : List ℕ) → n < M → g .nodeUse n ≡ NodeUse.placed → g .pos (headOf (t .shared)) ≤ g .pos n → Hangs (t .shared .nodeNext) n l → bags t l ≡ bags t′ l
+  unfolding bags Hangs
+  bags-stay n [] hn placed le h = refl
+  bags-stay n (k ∷ l) hn placed le h =
+      let line = lined M (view t) g (inv .queued) in
+      let z = goes-to line n k hn placed (omega arith) (h .0) in
+      let after = z .1 in
+      let e : view t .bag k ≡ view t′ .bag k = sym (same k (z .0) (omega arith)) in
+      let more = bags-stay k l (next-in line (λ x hx. inv .ranged .nodeNext x hx .0) n k hn (h .0)) (z .0) (omega arith) (h .1) in
+      λ i. record { node = k; seal = e i .epoch; holds = e i .holds } ∷ more i
+
+-- from tables on whose head nodes hang: their bags and then what is linked is what leaves and then what hangs on the head
 record Continues (N M : ℕ) (l : List Event) (t : Tables) (hung : List ℕ) : Type 0 where
   rest : List ℕ
-  splits : hung ++ links N M l t ≡ leaves N M l t ++ rest
+  splits : bags t hung ++ links N M l t ≡ leaves N M l t ++ bags (after N M l t) rest
   hangs : Hangs (after N M l t .shared .nodeNext) (headOf (after N M l t .shared)) rest
 
-runs-in-order : (N M : ℕ) (l : List Event) (t : Tables) → R.Sound N M t → G (view t) + advances N M l t < 2 ^ 62
+runs-in-order : (N M : ℕ) → 1 ≤ N → (l : List Event) (t : Tables) (s : R.Sound N M t) → Popped N (view t) (s .ghost) → G (view t) + advances N M l t < 2 ^ 62
     → (hung : List ℕ) → Hangs (t .shared .nodeNext) (headOf (t .shared)) hung → Continues N M l t hung
 unfolding after advances links leaves
-runs-in-order N M [] t s lt hung h = record { rest = hung; splits = no-more hung; hangs = h }
-runs-in-order N M (v ∷ l) t s lt hung h =
+runs-in-order N M hN [] t s b lt hung h = record { rest = hung; splits = no-more (bags t hung); hangs = h }
+runs-in-order N M hN (v ∷ l) t s b lt hung h =
+    let t′ : Tables = does N M v t .tables in
     let u = epoch-does N M t s (omega arith) v in
-    let one = passed-happens N M t (s .ghost) (s .inv) hung h (happens N M t (s .ghost) (s .inv) (s .stored) (omega arith) v) in
-    let more = runs-in-order N M l (does N M v t .tables) (sound-does N M t s (omega arith) v) (omega arith) (one .rest) (one .hangs) in
+    let o = happens N M t (s .ghost) (s .inv) (s .stored) (omega arith) v in
+    let one = passed-happens N M t (s .ghost) (s .inv) hung h o in
+    let s′ : R.Sound N M t′ = record
+    { ghost = ghostAfter o (s .ghost); inv = inv-happens N M t (s .ghost) (s .inv) (s .stored) o; stored = stored-happens N M t (s .ghost) (s .inv) (s .stored) o } in
+    let more = runs-in-order N M hN l t′ s′ (popped-happens N M t (s .ghost) (s .inv) b o) (omega arith) (one .rest) (one .hangs) in
+    let kept : bags t hung ≡ bags t′ hung = bags-stay N M t t′ (s .ghost) (s .inv) (bag-happens N M t (s .ghost) (s .inv) b o) (headOf (t .shared)) hung
+    (head-in N M 0 (view t) (s .ghost) (s .inv) hN) (s .inv .queued .head) (omega arith) h in
+    let both : bags t hung ++ bags t′ (linked M (t .shared) (t′ .shared)) ≡ bags t′ (left (t .shared) (t′ .shared)) ++ bags t′ (one .rest)
+    = rw kept (sym (bags-more t′ hung (linked M (t .shared) (t′ .shared))) ∙ ap (bags t′) (one .splits) ∙ bags-more t′ (left (t .shared) (t′ .shared)) (one .rest)) in
     record {
       rest = more .rest;
-      splits = in-turn hung (linked M (t .shared) (does N M v t .tables .shared)) (links N M l (does N M v t .tables))
-          (left (t .shared) (does N M v t .tables .shared)) (leaves N M l (does N M v t .tables)) (one .rest) (more .rest) (one .splits) (more .splits);
+      splits = in-turn (bags t hung) (bags t′ (linked M (t .shared) (t′ .shared))) (links N M l t′)
+          (bags t′ (left (t .shared) (t′ .shared))) (leaves N M l t′) (bags t′ (one .rest)) (bags (after N M l t′) (more .rest)) both (more .splits);
       hangs = more .hangs;
     }
 
@@ -353,7 +378,8 @@ fresh-hangs N M = null-is
 
 -- bags leave the queue in the order in which they were linked, and what was linked and has not left hangs on the head, in that order
 pub in-order : (N M : ℕ) → 1 ≤ N → 2 ≤ M → (l : List Event) → advances N M l (fresh N M) < 2 ^ 62 → InOrder N M l (fresh N M)
+unfolding sound-fresh bags
 in-order N M hN hM l lt =
     let e = fresh-epoch N M in
-    let k = runs-in-order N M l (fresh N M) (sound-fresh N M hN hM) (omega arith) [] (fresh-hangs N M) in
+    let k = runs-in-order N M hN l (fresh N M) (sound-fresh N M hN hM) (popped-start N M) (omega arith) [] (fresh-hangs N M) in
     record { rest = k .rest; splits = k .splits; hangs = k .hangs }

@@ -1,19 +1,19 @@
 -- The length of a participant's bag after a step or a call is what its work makes of it: the same, one more where an item is put, none
 -- where the bag is sealed. So the tables and the machine go together (`view-follow`). Assumes nothing.
 use mathlib.Core.Path.{_≡_, refl, _∙_}
-use mathlib.Core.Bool.{Bool, true, false}
+use mathlib.Core.Bool.{Bool}
 use Prim.Native.Nat.{ℕ, _+_, _-_}
 use Rattle.definition.specs.Base.{branch}
 use Rattle.definition.specs.Flow.{collectSteps, on, done, also, finalize, collected, pops, advanced, walk, placed, defer, pushed}
-use Rattle.definition.specs.Rule.{Rule, asks, follows}
+use Rattle.definition.specs.Rule.{follows}
 use Rattle.definition.specs.List.{insert, delete, iterate}
 use Rattle.definition.specs.Queue.{sealBag, push, pop}
 use Rattle.definition.specs.Internal.{pinEpoch, pinWord, pinCounted, unpinWord, repin, advanceEpoch, advanceWord, advanceStore, finalWord, rule}
-use Rattle.definition.specs.Calls.{begins, opens}
+use Rattle.definition.specs.Calls.{begins}
 use Rattle.definition.proofs.Base.{branch-ind}
 use Rattle.theorems.proofs.Machine.{Fits}
-use Rattle.theorems.proofs.Types.{Epoch, Slot, Node, Ptr, Pred, Cursor, Owner, Try, Pops, Deferring, Then, RegisterAt, RepinAt, WalkAt, PopAt, PushAt}
-use Rattle.theorems.proofs.Types.{Place, Participant, Seen, Work, After, Call}
+use Rattle.theorems.proofs.Types.{Epoch, Slot, Node, Ptr, Pred, Owner, Try, Deferring, Then, RegisterAt, RepinAt, WalkAt, PopAt, PushAt}
+use Rattle.theorems.proofs.Types.{Place, Participant, Seen, After, Call}
 
 -- the length afterwards is h, and there is no work; or the length alone
 unfoldable pub Length : ℕ → After → Type 0

@@ -11,7 +11,8 @@ use lib.Dec.{eqb}
 use lib.ListN.{length, drop, length-append}
 use lib.Seq.{take-append-seam, take-nil}
 use borrow.Author.Tests.{eq-eqb}
-use Rattle.definition.specs.Base.{branch, listed}
+use Rattle.definition.specs.Base.{branch, Tab, listed}
+use Rattle.definition.specs.Calls.{opens}
 use Rattle.definition.specs.Bags.{maxObjects}
 use Rattle.definition.specs.Tables.{Shared, Tables}
 use Rattle.definition.specs.Ranges.{bitWords, withinLimits}
@@ -21,10 +22,13 @@ use Rattle.definition.specs.Public.{Outcome, call, register, step, refused, enr
 use Rattle.definition.specs.Survey.{surveyLent}
 use Rattle.definition.proofs.Base.{and-intro}
 use Rattle.theorems.specs.Waiting.{times}
+use Rattle.theorems.specs.Order.{bags}
 use Rattle.theorems.specs.Statement.{Event, frees, number, words}
 use Rattle.theorems.specs.Statement as S
 use Rattle.theorems.specs.OnTables as On
-use Rattle.theorems.proofs.Machine.{view}
+use Rattle.theorems.proofs.Machine.{Machine, view, followed}
+use Rattle.theorems.proofs.Frames.{works-word}
+use Rattle.theorems.proofs.Inv.{called, view-call}
 use Rattle.theorems.proofs.Ghost.{G}
 use Rattle.theorems.proofs.Runs.{Happens, happens, Sound, sound-does, epoch-does}
 use Rattle.theorems.proofs.Leaving.{linked-none, left-none, turns-same}
@@ -105,6 +109,12 @@ module _ (N M : ℕ) (places : List ℕ) where
   carries-happens {t = t} (Happens.calls ca) = unfold follow in (carries-end (lentOf N M t) _ _ _)
   carries-happens {t = t} (Happens.enrols re) = unfold enrolled answerOf in (carries-end (lentOf N M t) End.GoesOn _ [])
 
+-- a call changes no participant's word: it makes no access
+call-keeps : (N M p d : ℕ) (c : Call) (t : Tables) (out : Out) → Happens N M t (On.Event.calls p c) out → view (out .tables) .shared .word d ≡ t .shared .word d
+call-keeps N M p d c t out (Happens.refuses r h) = refl
+call-keeps N M p d c t out (Happens.calls ca) = ap (λ (m : Machine). m .shared .word d) (view-call N p c t)
+    ∙ (unfold called followed in (ap (λ (w : Tab ℕ). w d) (works-word p (view t) (opens N c (view t .own p) .work))))
+
 module _ (N M : ℕ) (limits : withinLimits N M ≡ true) where
   -- lists of the right sizes are read, and what comes out goes back
   lending-is : (t : Tables) → Clean N M t → (places : List ℕ) (f : Tables → Out) → lending N M (lentOf N M t) places f ≡ given N M (lentOf N M t) places (f t .answer) (f t)
@@ -166,8 +176,8 @@ module _ (N M : ℕ) where
       retired = λ x. rw (pair, one .lent, one .answer, counts x (On.does N M v′ t .answer), k .retired x) refl;
       freed = λ x. rw (pair, one .tokens, one .lent, k .freed x) refl;
       unchanged = λ d. rw (pair, one .lent, words-back N M t clean, words-back N M t′ clean′, k .unchanged d) refl;
-      links = rw (pair, one .lent, words-back N M t clean, words-back N M t′ clean′, k .links) refl;
-      leaves = rw (pair, one .lent, words-back N M t clean, words-back N M t′ clean′, k .leaves) refl;
+      links = rw (pair, one .lent, words-back N M t clean, words-back N M t′ clean′, tables-back N M t′ clean′, k .links) refl;
+      leaves = rw (pair, one .lent, words-back N M t clean, words-back N M t′ clean′, tables-back N M t′ clean′, k .leaves) refl;
     }
 
   -- a survey more
@@ -183,8 +193,8 @@ module _ (N M : ℕ) where
       retired = λ x. zero-add _ ∙ k .retired x;
       freed = λ x. unfold frees in (rw (take-nil {A = ℕ} (number (surveyLent N M (lentOf N M t) reports .answer))) (unfold times in (zero-add _ ∙ k .freed x)));
       unchanged = λ d. rw (eq-eqb (w .word d) (w .word d) refl) (k .unchanged d);
-      links = rw (linked-none M w w (λ x _. turns-same w w x refl)) (k .links);
-      leaves = rw (left-none w w refl) (k .leaves);
+      links = rw (linked-none M w w (λ x _. turns-same w w x refl)) (unfold bags in (k .links));
+      leaves = rw (left-none w w refl) (unfold bags in (k .leaves));
     }
 
 module _ (N M : ℕ) (limits : withinLimits N M ≡ true) where
@@ -217,3 +227,11 @@ module _ (N M : ℕ) (limits : withinLimits N M ≡ true) where
       (carries-call N M limits t s clean (omega arith) p c) (λ u su cu. same run u su cu)
   same (Event.steps p places ∷ run) t s clean lt = same-other (Event.steps p places) (On.Event.steps (length places) p) run t s clean lt (unfold onTables in refl) (λ x a. unfold S.accepts On.accepts in refl)
       (carries-step N M limits t s clean (omega arith) p places) (λ u su cu. same run u su cu)
+
+  -- a call leaves every participant's word in the lists as it was
+  pub words-kept : (t : Tables) → Sound N M t → Clean N M t → G (view t) < 2 ^ 62 → (p d : ℕ) (c : Call)
+      → words N M (S.does N M (Event.calls p c) (lentOf N M t) .lent) .word d ≡ words N M (lentOf N M t) .word d
+  words-kept t s clean small p d c =
+      let t′ : Tables = On.does N M (On.Event.calls p c) t .tables in
+      rw (carries-call N M limits t s clean small p c .lent, words-back N M t clean, words-back N M t′ (does-clean N M t s clean small (On.Event.calls p c)))
+      (call-keeps N M p d c t _ (happens N M t (s .ghost) (s .inv) (s .stored) small (On.Event.calls p c)))

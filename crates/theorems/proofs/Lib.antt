@@ -40,6 +40,7 @@ pub mod Whole
 pub mod Start
 pub mod Checks
 pub mod Runs
+pub mod Popped
 pub mod Leaving
 pub mod Tokens
 pub mod Late

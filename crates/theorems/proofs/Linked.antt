@@ -163,10 +163,6 @@ module _ (N : ℕ) (m : Machine) (g : Ghost) (rec : Records N m g) where
   pub under-pin : (q : ℕ) → q < N → underPin (m .own q .place) ≡ true → Pinned m q
   under-pin q lt e = fine-under-pin (g .slotUse q) _ _ (m .own q) (m .held q) (rec .fine q lt) e
 
-  -- and so in the list
-  pub under-pin-linked : (q : ℕ) → q < N → underPin (m .own q .place) ≡ true → (g .slotUse q ≡ Use.linked) × (isTagged (m .shared .entryNext q) ≡ false)
-  under-pin-linked q lt e = pinned-linked q lt (under-pin q lt e)
-
   -- whoever is at a place of registering is being registered, so not in the list yet
   pub registers-use : (q : ℕ) → q < N → Registers (m .own q .place) → g .slotUse q ≡ Use.registering
   registers-use q lt r = fine-registers (g .slotUse q) _ _ (m .own q) (m .held q) (rec .fine q lt) r

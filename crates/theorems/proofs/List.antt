@@ -22,16 +22,15 @@ use Rattle.definition.specs.Calls.{begins, opens}
 use Rattle.definition.specs.Public.{newParticipant}
 use Rattle.definition.proofs.Base.{branch-ind, same?, put-ind, put-same, put-other}
 use Rattle.definition.proofs.Codec.{pointee-pointer}
-use Rattle.definition.proofs.Within.{PopIn, ThenIn, PlaceIn}
 use Rattle.theorems.proofs.Leads.{Leads, leads}
 use Rattle.theorems.proofs.Machine.{Machine, followed, map-put}
 use Rattle.theorems.proofs.Ghost.{Use, Ghost, Turn, useTurned, birthTurned, birthsTurned, slotsFreed, useWorked, moved}
-use Rattle.theorems.proofs.Invariant.{Of, poppedNode, Registers, OwnNext, Born, Listed, SafePred, SafeSlot, HoldsAt, HoldsWalk, times}
+use Rattle.theorems.proofs.Invariant.{poppedNode, Registers, OwnNext, Born, Listed, SafePred, SafeSlot, HoldsAt, HoldsWalk, times}
 use Rattle.theorems.proofs.Change.{Change}
 use Rattle.theorems.proofs.Worked.{Worked}
 use Rattle.theorems.proofs.Inv.{Inv, ruleOf, leftOf, afterOf, goesGhost, stepped, steppedGhost, Steps, called, calledGhost, Calls, registered, registeredGhost}
 use Rattle.theorems.proofs.Inv as I
-use Rattle.theorems.proofs.Safety.{in-bag-occurs, use-unfreed}
+use Rattle.theorems.proofs.Safety.{popped-in, in-bag-occurs, use-unfreed}
 use Rattle.theorems.proofs.Order.{Order, out-not-linked, registering-not-linked, to-slot, order-links, order-uses, order-enlist, order-behead, order-unlink}
 use Rattle.theorems.proofs.Linked.{in-range, registers-use, safe-linked, free-unused, followed-next, followed-head, followed-own, stepped-next, stepped-head, stepped-own, step-change, step-worked}
 use Rattle.theorems.proofs.Types.{Epoch, Slot, Node, Ptr, Pred, Cursor, Item, Owner, Try, Deferring, Then, RegisterAt, RepinAt, WalkAt, PopAt, PushAt, Place, Participant, Word, Work, After, Call}
@@ -189,32 +188,6 @@ unused-not-born : (u : Use) → Born Use.unused → Born u
 unfolding Born
 unused-not-born u b = absurd b
 
--- a popped node is a node
-popped-within : (N M : ℕ) (pl : Place) → PlaceIn N M pl → Of (λ n. n < M) (poppedNode pl)
-unfolding Of poppedNode PlaceIn PopIn ThenIn
-popped-within N M Place.Rest h = tt
-popped-within N M (Place.Register a) h = tt
-popped-within N M (Place.PinEpoch k) h = tt
-popped-within N M (Place.PinWord k e) h = tt
-popped-within N M (Place.Repin a) h = tt
-popped-within N M Place.UnpinWord h = tt
-popped-within N M (Place.AdvanceEpoch k) h = tt
-popped-within N M (Place.Walk t a) h = tt
-popped-within N M (Place.AdvanceWord t curr succ) h = tt
-popped-within N M (Place.AdvanceStore t) h = tt
-popped-within N M (Place.Pop q PopAt.Head) h = tt
-popped-within N M (Place.Pop q (PopAt.Next head)) h = tt
-popped-within N M (Place.Pop q (PopAt.Exchange head next)) h = tt
-popped-within N M (Place.Pop q (PopAt.Tail head next)) h = h .1 .1
-popped-within N M (Place.Pop q (PopAt.TailMove head next)) h = h .1 .1
-popped-within N M (Place.Push (Then.Defer (Deferring.Token token)) a) h = tt
-popped-within N M (Place.Push (Then.Defer (Deferring.Slot t c succ)) a) h = tt
-popped-within N M (Place.Push (Then.Defer (Deferring.Node q head next)) a) h = h .0 .1 .1
-popped-within N M (Place.Push Then.Flush a) h = tt
-popped-within N M (Place.Push Then.Finalize a) h = tt
-popped-within N M Place.FinalWord h = tt
-popped-within N M Place.FinalTag h = tt
-
 -- no pop is under way while registering or walking
 no-pop-register : {P : Type 0} (pl : Place) (a : RegisterAt) (n : ℕ) → pl ≡ Place.Register a → poppedNode pl ≡ some n → P
 unfolding poppedNode
@@ -242,16 +215,13 @@ popped-quiet p pl s v s′ n u (Change.tails from to e ev k es) h = rw ev
 popped-quiet p pl s v s′ n u (Change.links f new onto e ev k es) h = rw ev
 
 module _ (N M p : ℕ) (m : Machine) (g : Ghost) (inv : Inv N M m g) (hp : p < N) where
-  popped-in : (n : ℕ) → poppedNode (m .own p .place) ≡ some n → n < M
-  popped-in n pops = unfold Of in (rw pops at (popped-within N M (m .own p .place) (inv .ranged .places p hp)))
-
   -- a slot of a bag that is freed was out
   freed-out : (n q : ℕ) → poppedNode (m .own p .place) ≡ some n → q < N → g .slotUse q ≡ Use.linked → slotsFreed (m .bag n .holds) (g .slotUse) q ≡ g .slotUse q
   freed-out n q pops lt e = go (times (Item.Slot (record { 0 = q })) (m .bag n .holds)) refl
     where
       go : (k : ℕ) → times (Item.Slot (record { 0 = q })) (m .bag n .holds) ≡ k → slotsFreed (m .bag n .holds) (g .slotUse) q ≡ g .slotUse q
       go zero z = use-unfreed (m .bag n .holds) q (g .slotUse) z
-      go (suc k) z = out-not-linked (g .slotUse q) (inv .used .slotOut q lt (in-bag-occurs N M m n (Item.Slot (record { 0 = q })) (popped-in n pops) (λ y. omega arith))) e
+      go (suc k) z = out-not-linked (g .slotUse q) (inv .used .slotOut q lt (in-bag-occurs N M m n (Item.Slot (record { 0 = q })) (popped-in N M m g inv p hp n pops) (λ y. omega arith))) e
 
   -- so the order does not see it go
   order-freed : (n : ℕ) (birth : Tab ℕ) (births : ℕ) (s′ : Shared) → poppedNode (m .own p .place) ≡ some n → OrderOf N (g .slotUse) birth births s′

@@ -1,21 +1,20 @@
 -- C for the participant that steps: its new record is what its new place asks for. Guards are counted before a word is pinned and after it is
 -- cleared, a push begins with a full bag where an item waits and leaves it empty, and a finalize ends with an empty one. Assumes nothing.
-use mathlib.Core.Path.{_≡_, refl, ap, sym, _∙_}
+use mathlib.Core.Path.{_≡_, refl, sym, _∙_}
 use mathlib.Core.Logic.{_≢_}
 use mathlib.Core.Bool.{Bool, true, false}
 use mathlib.Core.List.{List, [], _∷_, _++_}
-use Prim.Native.Nat.{ℕ, _+_, _-_, _≤_, _<_}
+use Prim.Native.Nat.{ℕ, _+_, _-_, _≤_}
 use native.Mathlib.Omega.{arith}
 use lib.Dec.{eqb, ltb, leb}
 use lib.ListN.{length}
 use borrow.Author.Tests.{ltb-false, le-leb}
 use Rattle.epoch.specs.Epoch.{starting, isPinned, pinned}
-use Rattle.epoch.proofs.Laws.{isPinned-starting, isPinned-pinned, pinned-same}
-use Rattle.definition.specs.Base.{branch, put}
+use Rattle.epoch.proofs.Laws.{isPinned-starting, isPinned-pinned}
+use Rattle.definition.specs.Base.{branch}
 use Rattle.definition.specs.Bags.{maxObjects}
 use Rattle.definition.specs.Flow.{collectSteps, on, done, also, finalize, collected, pops, advanced, walk, placed, defer, pushed}
 use Rattle.definition.specs.Tables.{Shared, read, write}
-use Rattle.definition.specs.Rule.{Rule}
 use Rattle.definition.specs.Links.{pointer}
 use Rattle.definition.specs.List.{delete, iterate, predWord}
 use Rattle.definition.specs.Queue.{sealBag, push, pop}
@@ -23,7 +22,7 @@ use Rattle.definition.specs.Internal.{pinEpoch, pinWord, pinCounted, unpinWord,
 use Rattle.definition.proofs.Base.{branch-ind, put-same}
 use Rattle.theorems.proofs.Leads.{Leads}
 use Rattle.theorems.proofs.Invariant.{FullFor, Busy, Live, RepinPins}
-use Rattle.theorems.proofs.Types.{Epoch, Slot, Node, Ptr, Pred, Cursor, Owner, Try, Pops, Deferring, Then, RegisterAt, RepinAt, WalkAt, PopAt, PushAt, Place, Participant, Item, Work, After}
+use Rattle.theorems.proofs.Types.{Epoch, Slot, Node, Ptr, Pred, Owner, Try, Deferring, Then, RepinAt, WalkAt, PopAt, PushAt, Place, Participant, Item, Work, After}
 
 -- the bag after the work
 unfoldable pub bagAfter : Work → List Item → List Item

@@ -1,26 +1,25 @@
 -- The machine that the long proofs speak of: tables with participants and bags in place of their words. `view` reads it off the tables, and
 -- what follows an access or a call does to the tables (`follow` of specs/Step) it does to the machine (`followed`), so a clause kept by every
 -- move of the machine is kept by every step and call. Assumes nothing.
-use mathlib.Core.Path.{_≡_, refl, ap, sym, _∙_}
-use mathlib.Core.Bool.{Bool, true, false}
+use mathlib.Core.Path.{_≡_, refl, ap, _∙_}
+use mathlib.Core.Bool.{Bool, false}
 use mathlib.Core.List.{List, [], _∷_, _++_}
-use Prim.Native.Nat.{ℕ, zero, suc, _+_, _-_, _*_, _/_, _%_, _≤_, _<_}
+use Prim.Native.Nat.{ℕ, zero, suc, _+_, _-_, _*_, _/_, _%_, _<_}
 use native.Mathlib.Omega.{arith}
 use native.Mathlib.Numerals.{add-one}
-use lib.Dec.{eqb, ltb}
-use lib.ListN.{length}
-use borrow.Author.Tests.{lt-ltb, le-ltb, eq-eqb, ne-eqb}
+use lib.Dec.{ltb}
+use borrow.Author.Tests.{lt-ltb}
 use Rattle.definition.specs.Base.{branch, Tab, put, listed}
 use Rattle.definition.specs.Links.{null}
-use Rattle.definition.specs.Bags.{SealedBag, itemWord, itemOf, items, moved, tokens, freeSlots, freeNodes}
+use Rattle.definition.specs.Bags.{SealedBag, itemWord, itemOf, items, moved, freeSlots, freeNodes}
 use Rattle.definition.specs.Tables.{Shared, Tables, write}
 use Rattle.definition.specs.Tables as T
 use Rattle.definition.specs.Codec.{recordOf, participantOf}
-use Rattle.definition.specs.Step.{Out, putItem, sealInto, inBag, freeBag, settle, freedBy, answerOf, follow}
+use Rattle.definition.specs.Step.{putItem, sealInto, inBag, freeBag, settle, follow}
 use Rattle.definition.specs.Public.{the}
-use Rattle.definition.proofs.Base.{same?, put-ind, put-same, put-other, branch-ind, branch-true, branch-false}
+use Rattle.definition.proofs.Base.{same?, put-ind, put-same, put-other, branch-true}
 use Rattle.definition.proofs.Codec.{participant-back}
-use Rattle.theorems.proofs.Types.{Slot, Node, Item, Participant, Word, Work, End, After, Answer}
+use Rattle.theorems.proofs.Types.{Slot, Node, Item, Participant, Word, Work, After}
 
 -- a sealed bag: its seal, and what it holds
 pub record Sealed : Type 0 where
@@ -130,10 +129,6 @@ pub map-put : {A B : Type 0} (f : A → B) (t : Tab A) (i : ℕ) (v : A) (j : �
 map-put f t i v j = same? i j
     (λ e. rw (← e, put-same t i v, put-same (λ k. f (t k)) i (f v)))
     (λ ne. rw (put-other t i j v ne, put-other (λ k. f (t k)) i j (f v) ne))
-
--- what was there, put there again, changes nothing
-pub put-id : {A : Type 0} (t : Tab A) (i : ℕ) (v : A) → v ≡ t i → (j : ℕ) → put t i v j ≡ t j
-put-id t i v h j = put-ind (λ w. w ≡ t j) t i j v (λ e. h ∙ ap t e) (λ _. refl)
 
 -- two tables changed at one index, seen together
 pub zip-put : {A B C : Type 0} (f : A → B → C) (s : Tab A) (t : Tab B) (i : ℕ) (v : A) (w : B) (j : ℕ)

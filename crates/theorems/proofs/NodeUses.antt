@@ -22,6 +22,7 @@ use Rattle.theorems.proofs.Ghost.{NodeUse, Ghost, Turn, headOf, nodeTur
 use Rattle.theorems.proofs.Invariant.{Of, takenNode, oldHead, SafeNode, HoldsPop, HoldsAt, is, occurs, isSpare}
 use Rattle.theorems.proofs.Change.{Change}
 use Rattle.theorems.proofs.Inv.{Inv, Steps, Calls, Registers, leftOf, afterOf, goes, goesGhost, stepped, steppedGhost, called, calledGhost, registered, registeredGhost}
+use Rattle.theorems.proofs.Epochs.{of-none}
 use Rattle.theorems.proofs.Safety.{sum-at, node-use-unfreed}
 use Rattle.theorems.proofs.Linked.{step-change}
 use Rattle.theorems.proofs.Moves.{Bare, Deferred, Kind}
@@ -80,11 +81,6 @@ of-map : (P Q : ℕ → Type 0) (o : Option ℕ) → ((n : ℕ) → o ≡ some n
 unfolding Of
 of-map P Q none f h = tt
 of-map P Q (some n) f h = f n refl h
-
--- where a place carries nothing, there is nothing to say
-of-none : (P : ℕ → Type 0) (o : Option ℕ) → o ≡ none → Of P o
-unfolding Of
-of-none P o e = rw e tt
 
 -- a quiet turn links nothing
 quiet≢links : (n : ℕ) → Turn.quiet ≢ Turn.links n

@@ -16,7 +16,7 @@ use Rattle.definition.specs.Calls.{opens}
 use Rattle.definition.specs.Public.{takesNode}
 use Rattle.definition.proofs.Base.{put-ind, put-other, least-marked}
 use Rattle.definition.proofs.Codec.{index-link}
-use Rattle.definition.proofs.Within.{PlaceIn, ThenIn, PushIn, PopIn, ItemIn}
+use Rattle.definition.proofs.Within.{PlaceIn, PushIn, ItemIn}
 use Rattle.theorems.proofs.Machine.{Machine, Sealed, withShared, works, followed}
 use Rattle.theorems.proofs.Ghost.{NodeUse, Ghost, Turn, turnOf, G, headOf, tailOf, low, nodeTurned, posTurned, lastTurned, nodeWorked, moved}
 use Rattle.theorems.proofs.Invariant.{Of, takenNode, poppedNode, Pinned, Queued, SafeNode, HoldsAt, HoldsPop, HoldsPush, times, occurs, isSpare}
@@ -25,7 +25,7 @@ use Rattle.theorems.proofs.Worked.{popOf}
 use Rattle.theorems.proofs.Inv.{Inv, Steps, Calls, Registers, ruleOf, wonOf, leftOf, afterOf, goes, goesGhost, stepped, steppedGhost, called, calledGhost, registered, registeredGhost}
 use Rattle.theorems.proofs.Linked.{step-change}
 use Rattle.theorems.proofs.Moves.{gained, gainedBy, workOf, Deferred, Kind, step-kind, call-kind}
-use Rattle.theorems.proofs.Safety.{each-at, in-bag-occurs, node-unfreed, node-use-unfreed, past-kept}
+use Rattle.theorems.proofs.Safety.{each-at, popped-in, in-bag-occurs, node-unfreed, node-use-unfreed, past-kept}
 use Rattle.theorems.proofs.Queue.{Lined, spare≢placed, spare≢taken, apart, goes-to, line-pop, line-tail, line-link, use-linked, pos-linked, line-free, line-seal}
 use Rattle.theorems.proofs.Types.{Slot, Node, Pred, Item, Pops, Deferring, Then, PopAt, PushAt, Place, Word, Work, Call}
 
@@ -91,7 +91,7 @@ module _ (N M p : ℕ) (m : Machine) (g : Ghost) (inv : Inv N M m g) (hp : p < N
   }
 
   -- a tail is moved to the next of the node that it stands on
-  moves-next : (pl : Place) (from to : ℕ) → MovesTail pl from to → HoldsAt N M m g (g .gpin p) pl → m .shared .nodeNext from ≡ link to
+  pub moves-next : (pl : Place) (from to : ℕ) → MovesTail pl from to → HoldsAt N M m g (g .gpin p) pl → m .shared .nodeNext from ≡ link to
   unfolding HoldsAt HoldsPop HoldsPush
   moves-next pl from to MovesTail.popMoves h = h .0
   moves-next pl from to MovesTail.helps h = h .1 .1
@@ -195,32 +195,6 @@ spare-is NodeUse.spare h = refl
 spare-is NodeUse.taken h = absurd (true≢false (sym h))
 spare-is NodeUse.placed h = absurd (true≢false (sym h))
 
--- a popped node is in range
-popped-range : (N M : ℕ) (pl : Place) → PlaceIn N M pl → Of (λ n. n < M) (poppedNode pl)
-unfolding Of poppedNode PlaceIn PopIn ThenIn
-popped-range N M Place.Rest h = tt
-popped-range N M (Place.Register a) h = tt
-popped-range N M (Place.PinEpoch k) h = tt
-popped-range N M (Place.PinWord k w) h = tt
-popped-range N M (Place.Repin a) h = tt
-popped-range N M Place.UnpinWord h = tt
-popped-range N M (Place.AdvanceEpoch k) h = tt
-popped-range N M (Place.Walk t a) h = tt
-popped-range N M (Place.AdvanceWord t curr succ) h = tt
-popped-range N M (Place.AdvanceStore t) h = tt
-popped-range N M (Place.Pop q PopAt.Head) h = tt
-popped-range N M (Place.Pop q (PopAt.Next head)) h = tt
-popped-range N M (Place.Pop q (PopAt.Exchange head next)) h = tt
-popped-range N M (Place.Pop q (PopAt.Tail head next)) h = h .1 .1
-popped-range N M (Place.Pop q (PopAt.TailMove head next)) h = h .1 .1
-popped-range N M (Place.Push (Then.Defer (Deferring.Token token)) a) h = tt
-popped-range N M (Place.Push (Then.Defer (Deferring.Slot t c succ)) a) h = tt
-popped-range N M (Place.Push (Then.Defer (Deferring.Node q head next)) a) h = h .0 .1 .1
-popped-range N M (Place.Push Then.Flush a) h = tt
-popped-range N M (Place.Push Then.Finalize a) h = tt
-popped-range N M Place.FinalWord h = tt
-popped-range N M Place.FinalTag h = tt
-
 -- a number that cannot be other than 0
 pub none-of : (k : ℕ) → ((k ≢ 0) → ⊥) → k ≡ 0
 none-of zero h = refl
@@ -245,15 +219,12 @@ Sound M p m (Work.PutThenFree i n) = poppedNode (m .own p .place) ≡ some (n .0
 Sound M p m (Work.Seal n e) = (n .0 < M) × (m .nodeFree (n .0) ≡ true)
 
 module _ (N M p : ℕ) (m : Machine) (g : Ghost) (inv : Inv N M m g) (hp : p < N) where
-  -- the popped node is in range; what its bag holds is out of the queue
-  popped-in : (n : ℕ) → poppedNode (m .own p .place) ≡ some n → n < M
-  popped-in n e = unfold Of in (rw e at (popped-range N M (m .own p .place) (inv .ranged .places p hp)))
-
+  -- what the bag of a popped node holds is out of the queue
   pub freed-out : (n x : ℕ) → poppedNode (m .own p .place) ≡ some n → times (Item.Node (record { 0 = x })) (m .bag n .holds) ≢ 0
       → (g .nodeUse x ≡ NodeUse.placed) × (g .pos x < low (g .pos) (m .shared))
   unfolding ItemIn
   freed-out n x e ne =
-      let hn = popped-in n e in
+      let hn = popped-in N M m g inv p hp n e in
       inv .used .nodeOut x (each-at (ItemIn N M) (Item.Node (record { 0 = x })) (m .bag n .holds) (inv .ranged .bags n hn) ne)
       (in-bag-occurs N M m n (Item.Node (record { 0 = x })) hn ne)
 
@@ -327,7 +298,7 @@ module _ (N M p : ℕ) (m : Machine) (g : Ghost) (inv : Inv N M m g) (hp : p < N
     unfolding moved low SafeNode
     worked-onward w k = record {
       safe = λ d x hd pinned h. worked-safe w k x (h .1 .0) (λ n e. node-unfreed N M m g inv p hp n e d x hd pinned h);
-      kept = λ x h z. worked-safe w k x h (λ n e. unoccurring n x (popped-in n e) z);
+      kept = λ x h z. worked-safe w k x h (λ n e. unoccurring n x (popped-in N M m g inv p hp n e) z);
       pos = t .pos;
       next = λ x h z. worked-next w k x (λ e. spare≢placed (sym e ∙ h)) ∙ t .next x (λ _. z);
       seal = worked-seal w k;

@@ -1,7 +1,7 @@
--- Which places hold nodes, and what: the parts of group H that speak of nodes, apart from those that speak of slots (`holds-join` puts both
+-- Which places hold nodes, and what: the parts of group H that speak of nodes, apart from those that speak of slots (Held puts both
 -- together). Only pops and pushes under way hold any; whatever ends or begins something leads to a place that holds none, so a step from
 -- outside the queue does, and a call. Assumes nothing.
-use mathlib.Core.Path.{_≡_, refl, ap, sym, _∙_}
+use mathlib.Core.Path.{_≡_, refl, sym, _∙_}
 use mathlib.Core.Bool.{Bool, true, false, true≢false}
 use Prim.Native.Nat.{ℕ, _-_}
 use Rattle.definition.specs.Base.{branch}
@@ -14,9 +14,9 @@ use Rattle.definition.specs.Calls.{begins}
 use Rattle.definition.proofs.Base.{branch-ind}
 use Rattle.theorems.proofs.Machine.{Machine}
 use Rattle.theorems.proofs.Ghost.{Ghost}
-use Rattle.theorems.proofs.Invariant.{SafePtr, SafePred, PoppedSafe, HoldsThen, HoldsPop, HoldsPush, HoldsAt}
+use Rattle.theorems.proofs.Invariant.{PoppedSafe, HoldsThen, HoldsPop, HoldsPush, HoldsAt}
 use Rattle.theorems.proofs.Linked.{underPin}
-use Rattle.theorems.proofs.Types.{Epoch, Slot, Node, Ptr, Pred, Cursor, Owner, Try, Pops, Deferring, Then, RegisterAt, RepinAt, WalkAt, PopAt, PushAt, Place, Participant, Seen, After, Call}
+use Rattle.theorems.proofs.Types.{Epoch, Slot, Node, Ptr, Pred, Owner, Try, Pops, Deferring, Then, RegisterAt, RepinAt, WalkAt, PopAt, PushAt, Place, Participant, Seen, After, Call}
 
 -- what a place holds of nodes: the parts of `HoldsAt` that speak of them
 unfoldable pub NodesThen : (M : ℕ) → Machine → Ghost → ℕ → Then → Type 0
@@ -103,28 +103,6 @@ by-queue P pop push other (Place.Pop q a) = pop q a
 by-queue P pop push other (Place.Push f a) = push f a
 by-queue P pop push other Place.FinalWord = other Place.FinalWord refl
 by-queue P pop push other Place.FinalTag = other Place.FinalTag refl
-
--- what a place holds is what it holds of nodes and what it holds of slots: for whoever has both
-then-join : (N M : ℕ) (m : Machine) (g : Ghost) (b : ℕ) (f : Then) → NodesThen M m g b f
-    → ((t : Try) (c : Cursor) (succ : Ptr) → f ≡ Then.Defer (Deferring.Slot t c succ) → SafePred N g b (c .pred) × SafePtr N g b succ) → HoldsThen N M m g b f
-unfolding NodesThen HoldsThen
-then-join N M m g b (Then.Defer (Deferring.Token token)) h slots = tt
-then-join N M m g b (Then.Defer (Deferring.Slot t c succ)) h slots = slots t c succ refl
-then-join N M m g b (Then.Defer (Deferring.Node p head next)) h slots = h
-then-join N M m g b Then.Flush h slots = tt
-then-join N M m g b Then.Finalize h slots = tt
-
-pub holds-join : (N M : ℕ) (m : Machine) (g : Ghost) (b : ℕ) (pl : Place) → NodesAt M m g b pl → (inQueue? pl ≡ false → HoldsAt N M m g b pl)
-    → ((t : Try) (c : Cursor) (succ : Ptr) (a : PushAt) → pl ≡ Place.Push (Then.Defer (Deferring.Slot t c succ)) a → SafePred N g b (c .pred) × SafePtr N g b succ)
-    → HoldsAt N M m g b pl
-unfolding NodesAt HoldsAt
-holds-join N M m g b = by-queue
-    (λ pl. NodesAt M m g b pl → (inQueue? pl ≡ false → HoldsAt N M m g b pl)
-    → ((t : Try) (c : Cursor) (succ : Ptr) (a : PushAt) → pl ≡ Place.Push (Then.Defer (Deferring.Slot t c succ)) a → SafePred N g b (c .pred) × SafePtr N g b succ)
-    → HoldsAt N M m g b pl)
-    (λ q a h _ _. h)
-    (λ f a h _ slots. (then-join N M m g b f (h .0) (λ t c succ e. slots t c succ a (ap (λ (k : Then). Place.Push k a) e)), h .1))
-    (λ pl out _ holds _. holds out)
 
 -- a place that holds nothing of nodes: no pop or push is under way, or it has only begun
 unfoldable pub BareThen : Then → Type 0

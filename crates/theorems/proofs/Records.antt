@@ -4,13 +4,13 @@
 use mathlib.Core.Path.{_≡_, refl, ap, sym, _∙_}
 use mathlib.Core.Logic.{_≢_}
 use mathlib.Core.Bool.{Bool, true, false, true≢false}
-use mathlib.Core.List.{List, [], _∷_, _++_}
-use mathlib.Core.Option.{Option, none, some}
-use Prim.Native.Nat.{ℕ, zero, suc, _+_, _-_, _*_, _%_, _≤_, _<_}
+use mathlib.Core.List.{List, [], _∷_}
+use mathlib.Core.Option.{none}
+use Prim.Native.Nat.{ℕ, zero, suc, _+_, _-_, _*_, _%_, _<_}
 use native.Mathlib.Omega.{arith}
-use lib.Dec.{eqb, leb}
+use lib.Dec.{eqb}
 use lib.ListN.{length}
-use borrow.Author.Tests.{eqb-true, eqb-false, eq-eqb, ne-eqb}
+use borrow.Author.Tests.{eqb-true, eq-eqb, ne-eqb}
 use Rattle.theorems.proofs.Live.{unlinked-word, bagAfter, LiveAfter, LiveQ, live-step}
 use Rattle.epoch.specs.Epoch.{isPinned}
 use Rattle.definition.specs.Base.{branch, Tab, put, least}
@@ -18,7 +18,7 @@ use Rattle.definition.specs.Links.{null, link, isTagged, tagged, pointer}
 use Rattle.definition.specs.Bags.{freeSlots}
 use Rattle.definition.specs.Tables.{Shared, read, write}
 use Rattle.definition.specs.List.{insert, delete, predWord}
-use Rattle.definition.proofs.Base.{branch-ind, same?, put-ind, put-same, put-other}
+use Rattle.definition.proofs.Base.{same?, put-ind, put-same, put-other}
 use Rattle.theorems.proofs.Machine.{Machine, Fits, works, followed}
 use Rattle.theorems.proofs.Length.{Fitting, follows-fits}
 use Rattle.theorems.proofs.Repins.{after-repins}
@@ -32,8 +32,8 @@ use Rattle.theorems.proofs.Worked.{Worked, worked}
 use Rattle.theorems.proofs.Frames.{own-goes, entryNext-goes, word-goes, held-goes, length-bag}
 use Rattle.theorems.proofs.Safety.{use-unfreed, in-bag-occurs, popped-in}
 use Rattle.theorems.proofs.Inv.{Inv, Steps, ruleOf, wonOf, leftOf, afterOf, goes, goesGhost, stepped, steppedGhost}
-use Rattle.theorems.proofs.Invariant.{Quiet, Live, InList, Records, RepinPins, Fine, Born, SafeUse, SafeSlot, HoldsWalk, HoldsAt, isUnused, Registers, times, sameItem, poppedNode}
-use Rattle.theorems.proofs.Types.{Item, Node, Ptr, Pred, Cursor, Try, Then, RegisterAt, WalkAt, PushAt, Place, Participant, Word, Seen, Work, After}
+use Rattle.theorems.proofs.Invariant.{Live, InList, Records, RepinPins, Fine, Born, SafeUse, SafeSlot, HoldsWalk, HoldsAt, isUnused, Registers, times, sameItem, poppedNode}
+use Rattle.theorems.proofs.Types.{Item, Node, Ptr, Pred, Cursor, Try, Then, RegisterAt, WalkAt, PushAt, Place, Participant, Word, Seen, After}
 
 -- ---- tags
 

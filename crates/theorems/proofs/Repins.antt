@@ -1,21 +1,19 @@
 -- A repin that is about to store stores a pinned word: it pinned the epoch that it loaded. Assumes nothing.
-use mathlib.Core.Path.{_≡_, refl}
-use mathlib.Core.Bool.{Bool, true, false}
+use mathlib.Core.Bool.{Bool}
 use Prim.Native.Nat.{ℕ, _-_}
-use Rattle.epoch.specs.Epoch.{isPinned, pinned}
 use Rattle.epoch.proofs.Laws.{isPinned-pinned}
 use Rattle.definition.specs.Base.{branch, least}
 use Rattle.definition.specs.Flow.{collectSteps, on, done, also, finalize, collected, pops, advanced, walk, placed, defer, pushed}
-use Rattle.definition.specs.Rule.{Rule, asks, follows, sees}
+use Rattle.definition.specs.Rule.{asks, follows, sees}
 use Rattle.definition.specs.List.{insert, delete, iterate}
 use Rattle.definition.specs.Queue.{sealBag, push, pop}
 use Rattle.definition.specs.Internal.{pinEpoch, pinWord, pinCounted, unpinWord, repin, advanceEpoch, advanceWord, advanceStore, finalWord, rule}
-use Rattle.definition.specs.Calls.{begins, opens}
+use Rattle.definition.specs.Calls.{begins}
 use Rattle.definition.proofs.Base.{branch-ind}
 use Rattle.theorems.proofs.Machine.{Machine}
 use Rattle.theorems.proofs.Invariant.{RepinPins}
 use Rattle.theorems.proofs.Inv.{ruleOf, afterOf}
-use Rattle.theorems.proofs.Types.{Epoch, Slot, Node, Ptr, Pred, Cursor, Owner, Try, Pops, Deferring, Then, RegisterAt, RepinAt, WalkAt, PopAt, PushAt, Place, Participant, Seen, Work, After, Call}
+use Rattle.theorems.proofs.Types.{Epoch, Slot, Node, Ptr, Pred, Owner, Try, Deferring, Then, RegisterAt, RepinAt, WalkAt, PopAt, PushAt, Place, Participant, Seen, Work, After, Call}
 
 unfoldable pub RepinAfter : After → Type 0
 RepinAfter a = RepinPins (a .participant .place)

@@ -5,20 +5,19 @@ use mathlib.Core.Path.{_≡_, refl, ap, sym, _∙_}
 use mathlib.Core.Logic.{_≢_}
 use mathlib.Core.Bool.{Bool, true, false, _&&_, true≢false}
 use mathlib.Core.List.{List, [], _∷_}
-use mathlib.Core.Option.{Option, none, some}
+use mathlib.Core.Option.{some}
 use Prim.Native.Nat.{ℕ, zero, suc, _+_, _≤_, _<_}
 use native.Mathlib.Omega.{arith}
 use lib.Dec.{eqb, ltb, leb}
-use borrow.Author.Tests.{eqb-true, eqb-false, eq-eqb, ltb-true, ltb-false, leb-true, leb-false, lt-ltb, le-leb, lt-leb}
+use borrow.Author.Tests.{eqb-true, eqb-false, leb-false, lt-ltb}
 use Rattle.definition.specs.Base.{branch, Tab, put, sum}
-use Rattle.definition.specs.Tables.{Shared}
 use Rattle.definition.proofs.Base.{branch-ind, same?, put-ind, put-same, put-other}
 use Rattle.theorems.proofs.Machine.{Machine}
-use Rattle.theorems.proofs.Ghost.{Use, NodeUse, Ghost, Turn, num, G, low, useTurned, goneTurned, nodeTurned, posTurned, slotsFreed, nodesFreed, useWorked, nodeWorked, pastAfter}
-use Rattle.theorems.proofs.Invariant.{Of, popEpoch, poppedNode, Pinned, Epochs, SafeUse, SafeSlot, SafeNode, PoppedSafe, HoldsThen, HoldsPop, HoldsAt, Held}
-use Rattle.theorems.proofs.Invariant.{times, sameItem, waits, has, occurs, Used, Retired, Each, Bagged}
+use Rattle.theorems.proofs.Ghost.{Use, NodeUse, Ghost, Turn, num, G, useTurned, goneTurned, slotsFreed, nodesFreed, pastAfter}
+use Rattle.theorems.proofs.Invariant.{Of, popEpoch, poppedNode, Pinned, SafeUse, SafeSlot, SafeNode, HoldsThen, HoldsPop, HoldsAt}
+use Rattle.theorems.proofs.Invariant.{times, sameItem, occurs, Retired, Each}
 use Rattle.theorems.proofs.Inv.{Inv}
-use Rattle.theorems.proofs.Types.{Slot, Node, Item, Try, Pops, Deferring, Then, PopAt, PushAt, Place, Participant, Work}
+use Rattle.theorems.proofs.Types.{Slot, Node, Item, Deferring, Then, PopAt, Place}
 
 -- ---- lists of items
 

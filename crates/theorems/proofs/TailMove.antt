@@ -39,10 +39,11 @@ use Rattle.theorems.proofs.Linked.{free-unused, pinned-linked, step-cha
 use Rattle.theorems.proofs.Moves.{Deferred, Kind}
 use Rattle.theorems.proofs.Moves as Mv
 use Rattle.theorems.proofs.Queue.{Lined, spare≢taken, goes-to, last-is-tail}
-use Rattle.theorems.proofs.Nodes.{Onward, Sound, null-is, lined, tail-in, head-in, free-spare, kind-of, step-turned, step-sound, onward-step, call-sound, onward-call, onward-register, worked-ends, still}
-use Rattle.theorems.proofs.QueuePlaces.{inQueue?, by-queue, BareAt, Bare, out-bare, collected-bare, placed-bare, bare-after, bare-begins}
-use Rattle.theorems.proofs.HeldNodes.{queue-pinned, place-mine, place-other, step-gpin, call-place-mine, call-place-other, gpin-kept}
+use Rattle.theorems.proofs.Nodes.{Onward, Sound, moves-next, null-is, lined, tail-in, head-in, free-spare, kind-of, step-turned, step-sound, onward-step, call-sound, onward-call, onward-register, worked-ends, still}
+use Rattle.theorems.proofs.QueuePlaces.{inQueue?, by-queue, BareAt, Bare, out-bare, collected-bare, placed-bare, bare-after}
+use Rattle.theorems.proofs.HeldNodes.{call-gpin, call-bare, queue-pinned, place-mine, place-other, step-gpin, call-place-mine, call-place-other}
 use Rattle.theorems.proofs.Epochs.{none-not-some, of-none, of-known}
+use Rattle.theorems.proofs.Popped.{some-same}
 use Rattle.theorems.proofs.Start.{startGhost, inv-start}
 use Rattle.theorems.proofs.Stored.{stored-fresh}
 use Rattle.theorems.proofs.Checks.{view-register}
@@ -267,10 +268,6 @@ pub record Behind (N M : ℕ) (m : Machine) (g : Ghost) : Type 0 where
   pub left : (q : ℕ) → q < N → Of (λ n. g .pos n < g .pos (tailOf (m .shared))) (oldHead (m .own q .place))
   pub never : (q : ℕ) → q < N → NotMove (m .own q .place)
 
--- the same number in `some`
-some-same : (a b : ℕ) → some a ≡ some b → a ≡ b
-some-same a b e = cc
-
 module _ (N M : ℕ) (m : Machine) (g : Ghost) (inv : Inv N M m g) where
   line : Lined M (headOf (m .shared)) (tailOf (m .shared)) (m .shared .nodeNext) (g .nodeUse) (g .pos) (g .last)
   line = lined M m g (inv .queued)
@@ -474,19 +471,12 @@ module _ (N M p : ℕ) (m : Machine) (g : Ghost) (inv : Inv N M m g) (b : Behind
       (λ ne. mover-stays N M m g inv b (stepped M p m) (steppedGhost M p m g) ow step-seal v (place-other N M p m g inv st (v .who) ne)
       (step-gpin N M p m g inv st (v .who) (λ e. absurd (ne e))) (step-tail ∙ ap index same))
 
-  -- a tail is moved to the next of the node that it stands on
-  moves-next : (pl : Place) (from to : ℕ) → MovesTail pl from to → HoldsAt N M m g (g .gpin p) pl → m .shared .nodeNext from ≡ link to
-  unfolding HoldsAt HoldsPop HoldsPush
-  moves-next pl from to MovesTail.popMoves h = h .0
-  moves-next pl from to MovesTail.helps h = h .1 .1
-  moves-next pl from to MovesTail.pushMoves h = h .1 .1
-
   -- the tail was moved: it is not behind any more
   moved-up : (from to : ℕ) → MovesTail (m .own p .place) from to → m .shared .queueTail ≡ link from → leftOf M p m .queueTail ≡ link to
       → g .last ≢ g .pos (tailOf (leftOf M p m)) + 1
   moved-up from to moves was is lag =
       let e : tailOf (m .shared) ≡ from = ap index was ∙ index-link from in
-      let z : m .shared .nodeNext (tailOf (m .shared)) ≡ link to = rw e (moves-next (m .own p .place) from to moves (inv .held .holds p (st .here))) in
+      let z : m .shared .nodeNext (tailOf (m .shared)) ≡ link to = rw e (moves-next N M p m g inv (st .here) (m .own p .place) from to moves (inv .held .holds p (st .here))) in
       let k = goes-to (line N M m g inv) (tailOf (m .shared)) to (tail-in N M p m g inv (st .here)) (inv .queued .tail) (omega arith) z .1 in
       let i : g .pos (tailOf (leftOf M p m)) ≡ g .pos to = ap (g .pos) (ap index is ∙ index-link to) in
       let near = inv .queued .near in
@@ -545,10 +535,6 @@ module _ (N M p : ℕ) (c : Call) (m : Machine) (g : Ghost) (inv : Inv N M m g) 
   unfolding called followed
   call-tail = worked-ends N M p m g inv (ca .here) Turn.quiet (m .shared) (still N M p c m g inv ca) (opens N c (m .own p) .work) .1
 
-  call-gpin : (q : ℕ) → calledGhost N p c m g .gpin q ≡ g .gpin q
-  unfolding calledGhost moved
-  call-gpin q = gpin-kept (G m) (m .shared .word) (m .shared .word) (g .gpin) q refl
-
   call-last : calledGhost N p c m g .last ≡ g .last
   unfolding calledGhost moved lastTurned
   call-last = refl
@@ -557,25 +543,20 @@ module _ (N M p : ℕ) (c : Call) (m : Machine) (g : Ghost) (inv : Inv N M m g) 
   unfolding calledGhost moved posTurned
   call-pos = refl
 
-  -- what a call begins carries no node
-  call-bare : BareAt (opens N c (m .own p) .participant .place)
-  unfolding opens
-  call-bare = unfold Bare in (bare-begins c _)
-
   call-carries : (takenNode (opens N c (m .own p) .participant .place) ≡ none) × ((oldHead (opens N c (m .own p) .participant .place) ≡ none) × NotMove (opens N c (m .own p) .participant .place))
-  call-carries = bare-carries _ call-bare
+  call-carries = bare-carries _ (call-bare N M p c m g inv ca)
 
   mover-call : calledGhost N p c m g .last ≡ calledGhost N p c m g .pos (tailOf (called N p c m .shared)) + 1 → Mover N (called N p c m) (calledGhost N p c m g)
   mover-call lag =
       let v = b .mover (rw (call-last, call-pos, call-tail) at lag) in
       mover-stays N M m g inv b (called N p c m) (calledGhost N p c m g) ow-call call-seal v
-      (call-place-other N M p c m g inv ca (v .who) (λ e. push-not-rest (v .goal) (PushAt.Move (v .new) (v .onto)) (sym (v .stands) ∙ rw (← e) (ca .resting)))) (call-gpin (v .who)) call-tail
+      (call-place-other N M p c m g inv ca (v .who) (λ e. push-not-rest (v .goal) (PushAt.Move (v .new) (v .onto)) (sym (v .stands) ∙ rw (← e) (ca .resting)))) (call-gpin N M p c m g inv ca (v .who)) call-tail
 
   pub behind-call : Behind N M (called N p c m) (calledGhost N p c m g)
   behind-call = record {
     taken = λ q hq. same? p q
         (λ e. rw (← e, call-place-mine N M p c m g inv ca) (of-none _ _ (call-carries .0)))
-        (λ ne. rw (call-place-other N M p c m g inv ca q ne, call-gpin q)
+        (λ ne. rw (call-place-other N M p c m g inv ca q ne, call-gpin N M p c m g inv ca q)
         (of-known _ (takenNode (m .own q .place)) (taken-stays N M m g inv b (called N p c m) (calledGhost N p c m g) ow-call call-seal q hq)));
     mover = mover-call;
     left = λ q hq. same? p q

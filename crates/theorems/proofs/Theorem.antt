@@ -4,13 +4,13 @@
 use mathlib.Core.Path.{_≡_, refl, ap, sym, _∙_}
 use mathlib.Core.Logic.{_≢_}
 use mathlib.Core.Bool.{Bool, true, false, _&&_}
-use mathlib.Core.List.{List, [], _++_}
+use mathlib.Core.List.{List, [], _∷_, _++_}
 use Prim.Native.Nat.{ℕ, _+_, _^_, _≤_, _<_}
 use native.Mathlib.Omega.{arith}
 use lib.Dec.{eqb}
 use lib.ListN.{length}
 use lib.Seq.{take-nil}
-use borrow.Author.Tests.{leb-true}
+use borrow.Author.Tests.{leb-true, eq-eqb}
 use Rattle.epoch.specs.Epoch.{isPinned}
 use Rattle.definition.specs.Base.{branch, listed}
 use Rattle.definition.specs.Tables.{Tables}
@@ -21,7 +21,7 @@ use Rattle.definition.specs.Public.{Outcome, lending, given, kept, startLent, d
 use Rattle.definition.specs.Survey.{reportOf, Surveyed, surveyLent}
 use Rattle.definition.proofs.Base.{both}
 use Rattle.theorems.specs.Waiting.{times, waiting}
-use Rattle.theorems.specs.Statement.{Event, frees, number, words, started, Short, reached, InOrder, Reclaims}
+use Rattle.theorems.specs.Statement.{Event, frees, number, words, started, Short, reached, InOrder, Reclaims, Demand}
 use Rattle.theorems.specs.Statement as S
 use Rattle.theorems.specs.OnTables.{ReclaimsOnTables}
 use Rattle.theorems.specs.OnTables as On
@@ -35,8 +35,8 @@ use Rattle.theorems.proofs.Late.{not-early}
 use Rattle.theorems.proofs.Leaving.{in-order}
 use Rattle.theorems.proofs.Back.{Clean, tables-back}
 use Rattle.theorems.proofs.Clean.{fresh-clean, clean-run}
-use Rattle.theorems.proofs.Lent.{tabled, tabled-more, advances-more, carries-step, carries-register, carries-call, Same, same, words-back}
-use Rattle.theorems.proofs.Types.{End, Answer, Report}
+use Rattle.theorems.proofs.Lent.{tabled, tabled-more, advances-more, carries-step, carries-register, carries-call, Same, same, words-back, words-kept}
+use Rattle.theorems.proofs.Types.{End, Call, Answer, Report}
 
 -- for any number of participants, and any number of nodes from 2 on
 pub reclaims-on-tables : (N M : ℕ) → 1 ≤ N → 2 ≤ M → ReclaimsOnTables N M
@@ -81,6 +81,10 @@ survey-never N M t clean h reports = rw (tables-back N M t clean, h) (go (within
 survey-frees : (N M : ℕ) (l : Lent) (reports : List Report) (x : ℕ) → times x (frees (S.does N M (Event.surveys reports) l)) ≡ 0
 unfolding S.does frees times
 survey-frees N M l reports x = rw (take-nil {A = ℕ} (number (surveyLent N M l reports .answer))) refl
+
+-- a conjunction that fails though its first part holds
+second : (a b : Bool) → a ≡ true → (a && b) ≡ false → b ≡ false
+second a b h e = rw h at e
 
 -- the limits hold at least one participant and two nodes
 limits-say : (N M : ℕ) → withinLimits N M ≡ true → (1 ≤ N) × (2 ≤ M)
@@ -141,7 +145,7 @@ module _ (N M : ℕ) (l : Lent) (ok : startLent N M l .answer ≡ Answer.Done 0 
       let o = on .order (tabled run) (few run short) in
       record {
         rest = o .rest;
-        splits = rw (start .lent, k .links, k .leaves) (o .splits);
+        splits = rw (reaches run short, tables-back N M (at run) (clean run short), start .lent, k .links, k .leaves) (o .splits);
         hangs = rw (reaches run short, words-back N M (at run) (clean run short)) (o .hangs);
       }
 
@@ -214,12 +218,25 @@ module _ (N M : ℕ) (l : Lent) (ok : startLent N M l .answer ≡ Answer.Done 0 
         by (Event.calls p q) ne = early x d hd new pin (On.Event.calls p q) (rw (← carries-call N M (start .limits) t s c small p q .tokens) ne)
         by (Event.surveys reports) ne = absurd (ne (survey-frees N M (lentOf N M t) reports x))
 
-  -- the theorem
-  pub reclaims : Reclaims N M l
-  reclaims = record {
+  -- the retirement changes no word, so the change came later
+  not-early-then : (before since : List Event) (p x : ℕ) (v : Event) → let run = before ++ Event.calls p (Call.Defer x) ∷ since in Short N M l run
+      → (d : ℕ) → d < N → isPinned (words N M (reached N M l before) .word d) ≡ true → S.retired N M x before (started N M l) ≡ 0
+      → times x (frees (S.does N M v (reached N M l run))) ≢ 0 → S.unchanged N M d since (S.does N M (Event.calls p (Call.Defer x)) (reached N M l before) .lent) ≡ false
+  not-early-then before since p x v short d hd pin new ne =
+      let b = short-before before (Event.calls p (Call.Defer x) ∷ since) short in
+      let still : words N M (S.does N M (Event.calls p (Call.Defer x)) (reached N M l before) .lent) .word d ≡ words N M (reached N M l before) .word d
+      = rw (reaches before b) (words-kept N M (start .limits) (at before) (sound before b .0) (clean before b) (sound before b .1) p d (Call.Defer x)) in
+      second _ _ (eq-eqb _ _ still) (unfold S.unchanged in (late before (Event.calls p (Call.Defer x) ∷ since) short v x d hd new pin ne))
+
+  all : Reclaims N M l
+  all = record {
     balance = balance;
     once = λ run short x e. let b = balance run short x in omega arith;
-    late = λ before since v short. late before since short v;
+    late = not-early-then;
     whole = whole;
     order = order;
   }
+
+-- the theorem
+pub reclaims : Demand
+reclaims N M l ok = all N M l ok

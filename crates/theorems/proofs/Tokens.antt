@@ -24,27 +24,13 @@ use Rattle.theorems.proofs.Invariant.{waitingItem, sameItem, has, occur
 use Rattle.theorems.proofs.Invariant as Inv′
 use Rattle.theorems.proofs.Inv.{Inv, afterOf, ruleOf, view-step, view-call}
 use Rattle.theorems.proofs.Moves.{gainedBy}
-use Rattle.theorems.proofs.Balance.{freedItems, tokenTimes, acceptedBy, tokens-step, tokens-call, balance-register}
+use Rattle.theorems.proofs.Balance.{freedItems, tokens-times, acceptedBy, tokens-step, tokens-call, balance-register}
 use Rattle.theorems.proofs.Start.{nothing-waits}
 use Rattle.theorems.proofs.Checks.{view-register}
 use Rattle.theorems.proofs.Runs.{Happens, happens, Sound, sound-does, epoch-does, sound-fresh, fresh-epoch}
 use Rattle.theorems.proofs.Types.{Item, Deferring, Then, Place, Work, End, Call, Answer}
 
 -- ---- the words of the statement are those of the proofs
-
--- a token in a list
-times-same : (x : ℕ) (l : List ℕ) → times x l ≡ tokenTimes x l
-unfolding times tokenTimes
-times-same x [] = refl
-times-same x (y ∷ l) = rw (times-same x l)
-
--- a token in a bag
-pub times-items : (x : ℕ) (l : List Item) → times x (tokens l) ≡ Inv′.times (Item.Token x) l
-unfolding times tokens Inv′.times sameItem branch
-times-items x [] = refl
-times-items x (Item.Token y ∷ l) = rw (times-items x l)
-times-items x (Item.Node n ∷ l) = omega (arith, times-items x l)
-times-items x (Item.Slot s ∷ l) = omega (arith, times-items x l)
 
 -- a token that waits
 waits-same : (x : ℕ) (pl : Place) → waitsAt x pl ≡ waits (Item.Token x) (waitingItem pl)
@@ -73,8 +59,8 @@ pub waiting-is : (N M x : ℕ) (t : Tables) → waiting N M x t ≡ occurs N M (
 unfolding waiting occurs has
 waiting-is N M x t = rw (
   sum-ext N (λ q. times x (tokens (items (t .own q .held) (t .held q))) + waitsAt x (the q t .place)) (λ q. Inv′.times (Item.Token x) (view t .held q) + waits (Item.Token x) (waitingItem (view t .own q .place)))
-      (λ q _. rw (times-items x (items (t .own q .held) (t .held q)), waits-same x (the q t .place)) refl),
-  sum-ext M (λ n. times x (tokens (items (t .bag n .len) (t .bag n .deferreds)))) (λ n. Inv′.times (Item.Token x) (view t .bag n .holds)) (λ n _. times-items x (items (t .bag n .len) (t .bag n .deferreds))),
+      (λ q _. rw (tokens-times x (items (t .own q .held) (t .held q)), waits-same x (the q t .place)) refl),
+  sum-ext M (λ n. times x (tokens (items (t .bag n .len) (t .bag n .deferreds)))) (λ n. Inv′.times (Item.Token x) (view t .bag n .holds)) (λ n _. tokens-times x (items (t .bag n .len) (t .bag n .deferreds))),
 ) refl
 
 -- what a work frees
@@ -132,10 +118,10 @@ pub balance-happens : (N M x : ℕ) (t : Tables) (g : Ghost) → Inv N M (view t
 balance-happens N M x t g inv {v = v} (Happens.refuses r h) = rw (refused-accepts x v r) (unfold times in refl)
 balance-happens N M x t g inv (Happens.goes {places = places} {p = p} s) =
     let k = tokens-step N M p (view t) g inv s x in
-    rw (view-step M p t, step-freed M p t, times-same x (tokens (freedItems (afterOf M p (view t) .work) (view t .bag)))) (unfold accepts in (omega arith))
+    rw (view-step M p t, step-freed M p t) (unfold accepts in (omega arith))
 balance-happens N M x t g inv (Happens.calls {p = p} {c = c} ca) =
     let k = tokens-call N M p c (view t) g inv ca x in
-    rw (view-call N p c t, call-freed N p c t, times-same x (tokens (freedItems (opens N c (view t .own p) .work) (view t .bag))), call-accepts N x p c t) k
+    rw (view-call N p c t, call-freed N p c t, call-accepts N x p c t) k
 balance-happens N M x t g inv (Happens.enrols {p = p} re) =
     let k = balance-register N M p (view t) g inv re (Item.Token x) in
     rw (view-register p t) (unfold accepts times enrolled in (omega arith))

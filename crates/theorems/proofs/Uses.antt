@@ -30,8 +30,8 @@ use Rattle.theorems.proofs.Inv.{Inv, leftOf, afterOf, goes, goesGhost, 
 use Rattle.theorems.proofs.Safety.{sum-at, use-unfreed, node-use-unfreed}
 use Rattle.theorems.proofs.Linked.{in-range, safe-linked, followed-own}
 use Rattle.theorems.proofs.Moves.{Bare, workOf, Deferred, Left, Kind}
-use Rattle.theorems.proofs.Nodes.{Turned, step-turned, still}
-use Rattle.theorems.proofs.Balance.{freedItems, Fit, kind-step, step-fits, balance-goes, kind-call, call-fits, balance-register, unused, free-quiet}
+use Rattle.theorems.proofs.Nodes.{Turned, step-turned, still, kind-of, call-of}
+use Rattle.theorems.proofs.Balance.{freedItems, Fit, step-fits, balance-goes, call-fits, balance-register, unused, free-quiet}
 use Rattle.theorems.proofs.Types.{Slot, Node, Ptr, Pred, Cursor, Item, Try, Pops, Deferring, Then, RegisterAt, WalkAt, PopAt, PushAt, Place, Participant, Work, After, Call}
 
 -- ---- pointers
@@ -595,47 +595,47 @@ module _ (N M p : ℕ) (m : Machine) (g : Ghost) (inv : Inv N M m g) (steps : St
   pub slots-step : (x : ℕ) → x < N → notOut (steppedGhost M p m g .slotUse x) + occurs N M (stepped M p m) (Item.Slot (record { 0 = x })) ≡ 1
   unfolding stepped steppedGhost goesGhost
   slots-step = slots-goes N M p m g inv (steps .here) (leftOf M p m) (afterOf M p m)
-      (kind-step M p m) (step-fits N M p m g inv steps)
+      (kind-of N M p m g inv steps) (step-fits N M p m g inv steps)
 
   pub slotOut-step : (x : ℕ) → x < N → occurs N M (stepped M p m) (Item.Slot (record { 0 = x })) ≢ 0 → steppedGhost M p m g .slotUse x ≡ Use.out
   unfolding stepped steppedGhost goesGhost
   slotOut-step = slotOut-goes N M p m g inv (steps .here) (leftOf M p m) (afterOf M p m)
-      (kind-step M p m) (step-fits N M p m g inv steps)
+      (kind-of N M p m g inv steps) (step-fits N M p m g inv steps)
 
   pub nodes-step : (x : ℕ) → x < M → branch (stepped M p m .nodeFree x) 1 0
       + inQueue (steppedGhost M p m g .nodeUse x) (steppedGhost M p m g .pos x) (steppedGhost M p m g .pos (headOf (stepped M p m .shared)))
       + sum N (λ q. is x (takenNode (stepped M p m .own q .place)) + is x (oldHead (stepped M p m .own q .place))) + occurs N M (stepped M p m) (Item.Node (record { 0 = x })) ≡ 1
   unfolding stepped steppedGhost goesGhost
   nodes-step = nodes-goes N M p m g inv (steps .here) (leftOf M p m) (afterOf M p m)
-      (kind-step M p m) (step-fits N M p m g inv steps)
+      (kind-of N M p m g inv steps) (step-fits N M p m g inv steps)
 
   pub nodeOut-step : (x : ℕ) → x < M → occurs N M (stepped M p m) (Item.Node (record { 0 = x })) ≢ 0
       → (steppedGhost M p m g .nodeUse x ≡ NodeUse.placed) × (steppedGhost M p m g .pos x < low (steppedGhost M p m g .pos) (stepped M p m .shared))
   unfolding stepped steppedGhost goesGhost
   nodeOut-step = nodeOut-goes N M p m g inv (steps .here) (leftOf M p m) (afterOf M p m)
-      (kind-step M p m) (step-fits N M p m g inv steps) (step-turned N M p m g inv steps)
+      (kind-of N M p m g inv steps) (step-fits N M p m g inv steps) (step-turned N M p m g inv steps)
 
 -- ---- a call
 
 module _ (N M p : ℕ) (c : Call) (m : Machine) (g : Ghost) (inv : Inv N M m g) (calls : Calls N M p c m) where
   pub slots-call : (x : ℕ) → x < N → notOut (calledGhost N p c m g .slotUse x) + occurs N M (called N p c m) (Item.Slot (record { 0 = x })) ≡ 1
   unfolding called calledGhost goes
-  slots-call = slots-goes N M p m g inv (calls .here) (m .shared) (opens N c (m .own p)) (kind-call N M p c m g inv calls) (call-fits N M p c m g inv calls)
+  slots-call = slots-goes N M p m g inv (calls .here) (m .shared) (opens N c (m .own p)) (call-of N M p c m g inv calls) (call-fits N M p c m g inv calls)
 
   pub slotOut-call : (x : ℕ) → x < N → occurs N M (called N p c m) (Item.Slot (record { 0 = x })) ≢ 0 → calledGhost N p c m g .slotUse x ≡ Use.out
   unfolding called calledGhost goes
-  slotOut-call = slotOut-goes N M p m g inv (calls .here) (m .shared) (opens N c (m .own p)) (kind-call N M p c m g inv calls) (call-fits N M p c m g inv calls)
+  slotOut-call = slotOut-goes N M p m g inv (calls .here) (m .shared) (opens N c (m .own p)) (call-of N M p c m g inv calls) (call-fits N M p c m g inv calls)
 
   pub nodes-call : (x : ℕ) → x < M → branch (called N p c m .nodeFree x) 1 0
       + inQueue (calledGhost N p c m g .nodeUse x) (calledGhost N p c m g .pos x) (calledGhost N p c m g .pos (headOf (called N p c m .shared)))
       + sum N (λ q. is x (takenNode (called N p c m .own q .place)) + is x (oldHead (called N p c m .own q .place))) + occurs N M (called N p c m) (Item.Node (record { 0 = x })) ≡ 1
   unfolding called calledGhost goes
-  nodes-call = nodes-goes N M p m g inv (calls .here) (m .shared) (opens N c (m .own p)) (kind-call N M p c m g inv calls) (call-fits N M p c m g inv calls)
+  nodes-call = nodes-goes N M p m g inv (calls .here) (m .shared) (opens N c (m .own p)) (call-of N M p c m g inv calls) (call-fits N M p c m g inv calls)
 
   pub nodeOut-call : (x : ℕ) → x < M → occurs N M (called N p c m) (Item.Node (record { 0 = x })) ≢ 0
       → (calledGhost N p c m g .nodeUse x ≡ NodeUse.placed) × (calledGhost N p c m g .pos x < low (calledGhost N p c m g .pos) (called N p c m .shared))
   unfolding called calledGhost goes
-  nodeOut-call = nodeOut-goes N M p m g inv (calls .here) (m .shared) (opens N c (m .own p)) (kind-call N M p c m g inv calls) (call-fits N M p c m g inv calls) (still N M p c m g inv calls)
+  nodeOut-call = nodeOut-goes N M p m g inv (calls .here) (m .shared) (opens N c (m .own p)) (call-of N M p c m g inv calls) (call-fits N M p c m g inv calls) (still N M p c m g inv calls)
 
 -- ---- a registering: one use for another; nothing else is counted
 

@@ -14,7 +14,7 @@ use lib.Dec.{eqb}
 use borrow.Author.Tests.{eqb-true, not-false}
 use Rattle.epoch.specs.Epoch.{starting, isPinned, unpinned}
 use Rattle.epoch.proofs.Laws.{isPinned-starting, pinned-word, unpinned-even}
-use Rattle.definition.specs.Base.{branch, Tab, put, least}
+use Rattle.definition.specs.Base.{branch, Tab, least}
 use Rattle.definition.specs.Links.{link, isNull, isTagged, nodeAt, pointee}
 use Rattle.definition.specs.Flow.{collectSteps, on, done, also, finalize, collected, pops, advanced, walk, placed, defer, pushed, sharing}
 use Rattle.definition.specs.Tables.{Shared, read, write}

@@ -1,21 +1,18 @@
 -- What work a step can have: none; an item put into the bag; with it the bag of the node that this very pop had popped, freed; the bag sealed
 -- into the spare node. Where a popped bag is freed the pop is over, and elsewhere the popped node stays. Assumes nothing.
 use mathlib.Core.Path.{_≡_, refl}
-use mathlib.Core.Bool.{Bool, true, false}
+use mathlib.Core.Bool.{Bool}
 use mathlib.Core.Option.{Option, none, some}
-use Prim.Native.Nat.{ℕ, _+_, _-_}
+use Prim.Native.Nat.{ℕ, _-_}
 use Rattle.definition.specs.Base.{branch}
-use Rattle.definition.specs.Flow.{collectSteps, on, done, also, finalize, collected, pops, advanced, walk, waiting, placed, defer, pushed}
-use Rattle.definition.specs.Tables.{Shared, read}
-use Rattle.definition.specs.Rule.{Rule, asks, follows, sees, leaves}
+use Rattle.definition.specs.Flow.{collectSteps, on, done, also, finalize, collected, pops, advanced, walk, placed, defer, pushed}
+use Rattle.definition.specs.Rule.{follows}
 use Rattle.definition.specs.List.{insert, delete, iterate}
 use Rattle.definition.specs.Queue.{sealBag, push, pop}
 use Rattle.definition.specs.Internal.{pinEpoch, pinWord, pinCounted, unpinWord, repin, advanceEpoch, advanceWord, advanceStore, finalWord, rule}
-use Rattle.definition.specs.Calls.{begins}
 use Rattle.definition.proofs.Base.{branch-ind}
-use Rattle.theorems.proofs.Leads.{Leads, leads}
 use Rattle.theorems.proofs.Invariant.{poppedNode}
-use Rattle.theorems.proofs.Types.{Epoch, Slot, Node, Ptr, Pred, Cursor, Item, Owner, Try, Pops, Deferring, Then, RegisterAt, RepinAt, WalkAt, PopAt, PushAt, Place, Participant, Seen, Work, After, Call}
+use Rattle.theorems.proofs.Types.{Epoch, Slot, Node, Ptr, Pred, Item, Owner, Try, Deferring, Then, RegisterAt, RepinAt, WalkAt, PopAt, PushAt, Place, Participant, Seen, Work, After}
 
 -- the work a, from a place that has popped the node `was`
 pub data Worked (spare : Node) (was : Option ℕ) (a : After) : Type 0 where

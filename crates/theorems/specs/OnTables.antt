@@ -16,7 +16,7 @@ use Rattle.definition.specs.Step.{Out}
 use Rattle.definition.specs.Public.{call, register, step}
 use Rattle.definition.specs.declared.Call.{Call}
 use Rattle.definition.specs.declared.Answer.{Answer}
-use Rattle.theorems.specs.Order.{linked, left, Hangs}
+use Rattle.theorems.specs.Order.{linked, left, Bagged, bags, Hangs}
 use Rattle.theorems.specs.Waiting.{times, waiting, defers, ifAccepted}
 
 pub data Event : Type 0 where
@@ -62,20 +62,19 @@ module _ (N M : ℕ) where
   unchanged d [] t = true
   unchanged d (v ∷ l) t = eqb (does v t .tables .shared .word d) (t .shared .word d) && unchanged d l (does v t .tables)
 
-  -- the nodes that were linked during a run, in order
-  unfoldable pub links : List Event → Tables → List ℕ
+  -- the bags that were linked, and those that left the queue, in order, each as it was then
+  unfoldable pub links : List Event → Tables → List Bagged
   links [] t = []
-  links (v ∷ l) t = linked M (t .shared) (does v t .tables .shared) ++ links l (does v t .tables)
+  links (v ∷ l) t = bags (does v t .tables) (linked M (t .shared) (does v t .tables .shared)) ++ links l (does v t .tables)
 
-  -- the nodes whose bags left during a run, in order
-  unfoldable pub leaves : List Event → Tables → List ℕ
+  unfoldable pub leaves : List Event → Tables → List Bagged
   leaves [] t = []
-  leaves (v ∷ l) t = left (t .shared) (does v t .tables .shared) ++ leaves l (does v t .tables)
+  leaves (v ∷ l) t = bags (does v t .tables) (left (t .shared) (does v t .tables .shared)) ++ leaves l (does v t .tables)
 
-  -- first in, first out: what was linked is what left, in the same order, and then what still hangs on the head
+  -- first in, first out: the bags that were linked are those that left, in the same order and unchanged, and then those that still hang on the head
   pub record InOrder (l : List Event) (t : Tables) : Type 0 where
     pub rest : List ℕ
-    pub splits : links l t ≡ leaves l t ++ rest
+    pub splits : links l t ≡ leaves l t ++ bags (after l t) rest
     pub hangs : Hangs (after l t .shared .nodeNext) (index (after l t .shared .queueHead)) rest
 
   -- a run of fewer than 2^62 advances
@@ -98,5 +97,5 @@ module _ (N M : ℕ) where
         → unchanged d since (reached before) ≡ false
     -- refusal 1 never occurs
     pub whole : (l : List Event) → Short l → (v : Event) → does v (reached l) .answer ≢ Answer.Refused 1
-    -- bags leave the queue in the order in which they were linked
+    -- bags leave the queue in the order in which they were linked, as they were linked
     pub order : (l : List Event) → Short l → InOrder l (fresh N M)

@@ -21,7 +21,7 @@ use Rattle.definition.specs.declared.Call.{Call}
 use Rattle.definition.specs.declared.Answer.{Answer}
 use Rattle.definition.specs.declared.Report.{Report}
 use Rattle.theorems.specs.Waiting.{times, waiting, defers, ifAccepted}
-use Rattle.theorems.specs.Order.{linked, left, Hangs}
+use Rattle.theorems.specs.Order.{linked, left, Bagged, bags, Hangs}
 
 -- any public call but a second start: a step with the list that it lends for freed tokens, a registering, a call, a survey with its reports
 pub data Event : Type 0 where
@@ -82,14 +82,14 @@ module _ (N M : ℕ) where
   unchanged d [] l = true
   unchanged d (v ∷ run) l = eqb (words (does v l .lent) .word d) (words l .word d) && unchanged d run (does v l .lent)
 
-  -- the nodes that were linked, and those whose bags left, in order
-  unfoldable pub links : List Event → Lent → List ℕ
+  -- the bags that were linked, and those that left the queue, in order, each as it was then
+  unfoldable pub links : List Event → Lent → List Bagged
   links [] l = []
-  links (v ∷ run) l = linked M (words l) (words (does v l .lent)) ++ links run (does v l .lent)
+  links (v ∷ run) l = bags (tablesOf N M (does v l .lent)) (linked M (words l) (words (does v l .lent))) ++ links run (does v l .lent)
 
-  unfoldable pub leaves : List Event → Lent → List ℕ
+  unfoldable pub leaves : List Event → Lent → List Bagged
   leaves [] l = []
-  leaves (v ∷ run) l = left (words l) (words (does v l .lent)) ++ leaves run (does v l .lent)
+  leaves (v ∷ run) l = bags (tablesOf N M (does v l .lent)) (left (words l) (words (does v l .lent))) ++ leaves run (does v l .lent)
 
 -- N participants, M nodes, and the lists l that were lent to `start`, whatever they held
 module _ (N M : ℕ) (l : Lent) where
@@ -103,10 +103,10 @@ module _ (N M : ℕ) (l : Lent) where
   abbrev pub reached : List Event → Lent
   reached run = after N M run started
 
-  -- first in, first out: what was linked is what left, in the same order, and then what still hangs on the head
+  -- first in, first out: the bags that were linked are those that left, in the same order and unchanged, and then those that still hang on the head
   pub record InOrder (run : List Event) : Type 0 where
     pub rest : List ℕ
-    pub splits : links N M run started ≡ leaves N M run started ++ rest
+    pub splits : links N M run started ≡ leaves N M run started ++ bags (tablesOf N M (reached run)) rest
     pub hangs : Hangs (words N M (reached run) .nodeNext) (index (words N M (reached run) .queueHead)) rest
 
   pub record Reclaims : Type 0 where
@@ -114,12 +114,16 @@ module _ (N M : ℕ) (l : Lent) where
     pub balance : (run : List Event) → Short run → (x : ℕ) → retired N M x run started ≡ freed N M x run started + waiting N M x (tablesOf N M (reached run))
     -- so a token that was retired once is freed at most once
     pub once : (run : List Event) → Short run → (x : ℕ) → retired N M x run started ≡ 1 → freed N M x run started ≤ 1
-    -- no early free: after the events `before`, which end just before a token's first retirement, participant d is pinned; then come the events
-    -- `since`, that retirement the first of them; and event v frees the token. Then d's word changed in the course of `since`
-    pub late : (before since : List Event) (v : Event) → Short (before ++ since) → (x d : ℕ) → d < N → retired N M x before started ≡ 0
-        → isPinned (words N M (reached before) .word d) ≡ true → times x (frees (does N M v (reached (before ++ since)))) ≢ 0
-        → unchanged N M d since (reached before) ≡ false
+    -- no early free: participant d is pinned after the events `before`, in which x was not retired; then p, perhaps d itself, retires x; then come
+    -- the events `since`, and then event v frees x. In the course of `since` the word of d changed
+    pub late : (before since : List Event) (p x : ℕ) (v : Event) → let run = before ++ Event.calls p (Call.Defer x) ∷ since in Short run
+        → (d : ℕ) → d < N → isPinned (words N M (reached before) .word d) ≡ true → retired N M x before started ≡ 0
+        → times x (frees (does N M v (reached run))) ≢ 0 → unchanged N M d since (does N M (Event.calls p (Call.Defer x)) (reached before) .lent) ≡ false
     -- refusal 1 never occurs
     pub whole : (run : List Event) → Short run → (v : Event) → does N M v (reached run) .answer ≢ Answer.Refused 1
-    -- bags leave the queue in the order in which they were linked
+    -- bags leave the queue in the order in which they were linked, as they were linked
     pub order : (run : List Event) → Short run → InOrder run
+
+-- demand 3: whatever lists a start is lent, if it answers that it is done
+abbrev pub Demand : Type 0
+Demand = (N M : ℕ) (l : Lent) → startLent N M l .answer ≡ Answer.Done 0 0 → Reclaims N M l

@@ -1,0 +1,4 @@
+-- Laws of `counts`.
+pub mod Setter
+pub mod Setting
+pub mod Standing

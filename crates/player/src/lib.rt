@@ -1,0 +1,38 @@
+// An action of the schedule program, played on lent lists: the public call that it names.
+use definition::Answer;
+use script::Action;
+ghost use mathlib.Core.Path.{_≡_};
+ghost use Rattle.definition.specs.Layout.{lent};
+ghost use Rattle.definition.specs.Public.{outcome};
+ghost use Rattle.script.specs.Played.{acts};
+
+// Plays an action, for `n` participants and `m` nodes. A broken record changes nothing.
+pub fn act(
+    n: usize,
+    m: usize,
+    globals: &mut [u64],
+    participants: &mut [u64],
+    nodes: &mut [u64],
+    held: &mut [u64],
+    queued: &mut [u64],
+    freed: &mut [u64],
+    action: Action,
+) -> Answer
+    ensures { λ r. ⌜
+        outcome r (now (globals .exit)) (now (participants .exit)) (now (nodes .exit)) (now (held .exit)) (now (queued .exit)) (now (freed .exit))
+        ≡ acts n m (lent (now (globals .entry)) (now (participants .entry)) (now (nodes .entry)) (now (held .entry)) (now (queued .entry))) (now (freed .entry)) action
+        ⌝ }
+{
+    match action {
+        Action::Step(p) => {
+            let i = p as usize;
+            reclaimer::step(n, m, globals, participants, nodes, held, queued, i, freed)
+        }
+        Action::Register => reclaimer::register(n, m, globals, participants, nodes, held, queued),
+        Action::Call(p, c) => {
+            let i = p as usize;
+            reclaimer::call(n, m, globals, participants, nodes, held, queued, i, c)
+        }
+        Action::Broken => Answer::Refused(13),
+    }
+}

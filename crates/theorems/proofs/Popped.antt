@@ -1,0 +1,177 @@
+-- A bag stays as it was sealed from its link until it leaves the queue. A node that somebody has popped and not yet freed stands no later in the
+-- queue than the head (`Popped`): the head was moved to it by that pop, and only goes on. So the bag that a step frees is none of those that
+-- hang on the head; nor is the one that is sealed, for its node was free. Beside the invariant of Inv, which it needs and does not
+-- change. Leans on Nodes (what a move does to nodes), Moves and Safety. Assumes nothing.
+use mathlib.Core.Path.{_≡_, refl, ap, sym, _∙_}
+use mathlib.Core.Logic.{_≢_}
+use mathlib.Core.Option.{Option, some}
+use Prim.Native.Nat.{ℕ, _≤_, _<_}
+use native.Mathlib.Omega.{arith}
+use native.Mathlib.Nat.{le-refl}
+use Rattle.definition.specs.Base.{Tab}
+use Rattle.definition.specs.Links.{link, index}
+use Rattle.definition.specs.Tables.{Tables, Shared, write}
+use Rattle.definition.specs.Calls.{opens}
+use Rattle.definition.specs.Codec.{participantOf}
+use Rattle.definition.specs.Public.{newParticipant}
+use Rattle.definition.specs.Ranges.{fresh}
+use Rattle.definition.specs.Step.{Out}
+use Rattle.definition.proofs.Base.{same?, put-same, put-other}
+use Rattle.definition.proofs.Codec.{place-back, index-link}
+use Rattle.theorems.specs.OnTables.{Event}
+use Rattle.theorems.proofs.Machine.{Machine, Sealed, view, withShared, works, followed}
+use Rattle.theorems.proofs.Ghost.{NodeUse, Ghost, Turn, headOf}
+use Rattle.theorems.proofs.Invariant.{Of, poppedNode, SafeNode}
+use Rattle.theorems.proofs.Inv.{Inv, Steps, Calls, Registers, leftOf, afterOf, goes, stepped, steppedGhost, called, calledGhost, registered, registeredGhost, view-step, view-call}
+use Rattle.theorems.proofs.Moves.{Deferred, Kind}
+use Rattle.theorems.proofs.Moves as Mv
+use Rattle.theorems.proofs.Queue.{spare≢placed}
+use Rattle.theorems.proofs.Nodes.{Onward, Sound, free-spare, kind-of, call-of, step-head, step-sound, onward-step, call-sound, onward-call, worked-ends, still}
+use Rattle.theorems.proofs.HeldNodes.{place-mine, place-other, call-place-mine, call-place-other}
+use Rattle.theorems.proofs.Bags.{push-popped}
+use Rattle.theorems.proofs.Epochs.{none-not-some, of-none, of-known}
+use Rattle.theorems.proofs.Safety.{popped-here}
+use Rattle.theorems.proofs.Start.{startGhost}
+use Rattle.theorems.proofs.Checks.{view-register}
+use Rattle.theorems.proofs.Runs.{Happens, ghostAfter}
+use Rattle.theorems.proofs.Types.{Node, Item, Deferring, Then, PushAt, Place, Work, Call}
+
+-- ---- what a move does to the popped node of who makes it
+
+-- a deferring ends with the popped node kept, or with none
+deferred-popped : (n : ℕ) (d : Deferring) (w : Work) (pl : Place) (a : PushAt) → Deferred d w pl → poppedNode pl ≡ some n → poppedNode (Place.Push (Then.Defer d) a) ≡ some n
+unfolding Mv.Bare
+deferred-popped n d w pl a (Deferred.stored k) e = absurd (none-not-some n (sym (k .1 .1 .1) ∙ e))
+deferred-popped n d w pl a Deferred.waits e = push-popped (Then.Defer d) a PushAt.Epoch ∙ e
+
+-- a node that is popped afterwards was popped, or the head goes to it now
+kind-popped : (R : Type 0) (p : ℕ) (spare : Node) (s s′ : Shared) (pl : Place) (v : Turn) (i : Option Item) (w : Work) (pl′ : Place) → Kind p spare s s′ pl v i w pl′
+    → (n : ℕ) → poppedNode pl′ ≡ some n → (poppedNode pl ≡ some n → R) → ((next : ℕ) → s′ .queueHead ≡ link next → some next ≡ some n → R) → R
+kind-popped R p spare s s′ pl v i w pl′ (Kind.idle h k) n e a b = a (sym (k .popped) ∙ e)
+kind-popped R p spare s s′ pl v i w pl′ (Kind.enlists h k) n e a b = absurd (none-not-some n (unfold Mv.Bare in (sym (k .1 .1 .1) ∙ e)))
+kind-popped R p spare s s′ pl v i w pl′ (Kind.seals {f} h) n e a b = a (push-popped f PushAt.Epoch (PushAt.Tail spare) ∙ e)
+kind-popped R p spare s s′ pl v i w pl′ (Kind.links {f} {new} {onto} h) n e a b = a (push-popped f (PushAt.Link new onto) (PushAt.Move new onto) ∙ e)
+kind-popped R p spare s s′ pl v i w pl′ (Kind.pops {next = next} h k) n e a b = b (next .0) k (unfold poppedNode in e)
+kind-popped R p spare s s′ pl v i w pl′ (Kind.unlinks h _ k) n e a b =
+    absurd (none-not-some n (unfold poppedNode in (deferred-popped n _ w pl′ PushAt.Epoch k e)))
+kind-popped R p spare s s′ pl v i w pl′ (Kind.retires h _ k) n e a b = a (unfold poppedNode in (deferred-popped n _ w pl′ PushAt.Epoch k e))
+kind-popped R p spare s s′ pl v i w pl′ (Kind.moves h _ k) n e a b = a (unfold poppedNode in (deferred-popped n _ w pl′ PushAt.Epoch k e))
+kind-popped R p spare s s′ pl v i w pl′ (Kind.pushes {d} {new} {onto} h k) n e a b = a (deferred-popped n d w pl′ (PushAt.Move new onto) k e)
+kind-popped R p spare s s′ pl v i w pl′ (Kind.accepts h k) n e a b =
+    absurd (none-not-some n (unfold poppedNode in (deferred-popped n _ w pl′ PushAt.Epoch k e)))
+
+-- ---- the clause
+
+pub record Popped (N : ℕ) (m : Machine) (g : Ghost) : Type 0 where
+  pub behind : (q : ℕ) → q < N → Of (λ n. g .pos n ≤ g .pos (headOf (m .shared))) (poppedNode (m .own q .place))
+
+-- the same number in `some`
+pub some-same : (a b : ℕ) → some a ≡ some b → a ≡ b
+some-same a b e = cc
+
+module _ (N M : ℕ) (m : Machine) (g : Ghost) (inv : Inv N M m g) (b : Popped N m g) where
+  -- of one participant
+  popped-le : (q : ℕ) → q < N → (n : ℕ) → poppedNode (m .own q .place) ≡ some n → g .pos n ≤ g .pos (headOf (m .shared))
+  popped-le q hq n e = unfold Of in (rw e at (b .behind q hq))
+
+  -- a popped node keeps its number, and the head only goes on
+  popped-stays : (s′ : Shared) (b′ : Tab Sealed) (g′ : Ghost) → Onward N M m g s′ b′ g′ → (q : ℕ) → q < N → (n : ℕ) → poppedNode (m .own q .place) ≡ some n
+      → g′ .pos n ≤ g′ .pos (headOf s′)
+  unfolding SafeNode
+  popped-stays s′ b′ g′ ow q hq n e =
+      let was = popped-le q hq n e in
+      let same = ow .pos n (popped-here N M m g inv q hq n e .0 .1 .0) in
+      let up = ow .head in
+      omega arith
+
+  -- a node that hangs on the head: neither the work of a step nor that of a call touches its bag
+  pub bag-stays : (p : ℕ) → p < N → (s : Shared) (w : Work) → Sound M p m w → (x : ℕ) → g .nodeUse x ≡ NodeUse.placed → g .pos (headOf (m .shared)) < g .pos x
+      → works p w (withShared s m) .bag x ≡ m .bag x
+  unfolding works Sound
+  bag-stays p hp s Work.Nothing k x h lt = refl
+  bag-stays p hp s (Work.Put i) k x h lt = refl
+  bag-stays p hp s (Work.PutThenFree i n) k x h lt = put-other (m .bag) (n .0) x _
+      (λ e. let le = popped-le p hp (n .0) k in let i = ap (g .pos) e in omega arith)
+  bag-stays p hp s (Work.Seal n e) k x h lt = put-other (m .bag) (n .0) x _
+      (λ i. spare≢placed (sym (free-spare N M p m g inv hp (n .0) (k .0) (k .1)) ∙ ap (g .nodeUse) i ∙ h))
+
+module _ (N M p : ℕ) (m : Machine) (g : Ghost) (inv : Inv N M m g) (b : Popped N m g) (st : Steps N M p m) where
+  -- by a step of p, what p has popped
+  popped-own : (n : ℕ) → poppedNode (afterOf M p m .participant .place) ≡ some n → steppedGhost M p m g .pos n ≤ steppedGhost M p m g .pos (headOf (stepped M p m .shared))
+  popped-own n e = kind-popped _ p _ _ _ _ _ _ _ _ (kind-of N M p m g inv st) n e
+      (λ was. popped-stays N M m g inv b _ _ _ (onward-step N M p m g inv st) p (st .here) n was)
+      (λ next to same.
+      let i : headOf (stepped M p m .shared) ≡ n = step-head N M p m g inv st ∙ ap index to ∙ index-link next ∙ some-same next n same in
+      rw i (le-refl (steppedGhost M p m g .pos n)))
+
+  popped-step : Popped N (stepped M p m) (steppedGhost M p m g)
+  popped-step = record {
+    behind = λ q hq. same? p q
+        (λ e. rw (← e, place-mine N M p m g inv st) (of-known _ (poppedNode (afterOf M p m .participant .place)) popped-own))
+        (λ ne. rw (place-other N M p m g inv st q ne)
+        (of-known _ (poppedNode (m .own q .place)) (popped-stays N M m g inv b _ _ _ (onward-step N M p m g inv st) q hq)));
+  }
+
+  bag-step : (x : ℕ) → g .nodeUse x ≡ NodeUse.placed → g .pos (headOf (m .shared)) < g .pos x → stepped M p m .bag x ≡ m .bag x
+  unfolding stepped goes followed
+  bag-step x h lt = bag-stays N M m g inv b p (st .here) (leftOf M p m) (afterOf M p m .work) (step-sound N M p m g inv st) x h lt
+
+module _ (N M p : ℕ) (c : Call) (m : Machine) (g : Ghost) (inv : Inv N M m g) (b : Popped N m g) (ca : Calls N M p c m) where
+  call-head : headOf (called N p c m .shared) ≡ headOf (m .shared)
+  unfolding called followed
+  call-head = worked-ends N M p m g inv (ca .here) Turn.quiet (m .shared) (still N M p c m g inv ca) (opens N c (m .own p) .work) .0
+
+  -- by a call
+  popped-begun : (n : ℕ) → poppedNode (opens N c (m .own p) .participant .place) ≡ some n → calledGhost N p c m g .pos n ≤ calledGhost N p c m g .pos (headOf (called N p c m .shared))
+  popped-begun n e = kind-popped _ p _ _ _ _ _ _ _ _ (call-of N M p c m g inv ca) n e
+      (λ was. popped-stays N M m g inv b _ _ _ (onward-call N M p c m g inv ca) p (ca .here) n was)
+      (λ next to same.
+      let i : headOf (called N p c m .shared) ≡ n = call-head ∙ ap index to ∙ index-link next ∙ some-same next n same in
+      rw i (le-refl (calledGhost N p c m g .pos n)))
+
+  popped-call : Popped N (called N p c m) (calledGhost N p c m g)
+  popped-call = record {
+    behind = λ q hq. same? p q
+        (λ e. rw (← e, call-place-mine N M p c m g inv ca) (of-known _ (poppedNode (opens N c (m .own p) .participant .place)) popped-begun))
+        (λ ne. rw (call-place-other N M p c m g inv ca q ne)
+        (of-known _ (poppedNode (m .own q .place)) (popped-stays N M m g inv b _ _ _ (onward-call N M p c m g inv ca) q hq)));
+  }
+
+  bag-call : (x : ℕ) → g .nodeUse x ≡ NodeUse.placed → g .pos (headOf (m .shared)) < g .pos x → called N p c m .bag x ≡ m .bag x
+  unfolding called followed
+  bag-call x h lt = bag-stays N M m g inv b p (ca .here) (m .shared) (opens N c (m .own p) .work) (call-sound N M p c m g inv ca) x h lt
+
+-- by registering, which touches neither the queue nor its bags
+popped-register : (N M p : ℕ) (m : Machine) (g : Ghost) → Inv N M m g → Popped N m g → Registers N p m → Popped N (registered p m) (registeredGhost p g)
+unfolding registered registeredGhost
+popped-register N M p m g inv b re = record {
+  behind = λ q hq. same? p q
+      (λ e. rw (← e, put-same (m .own) p newParticipant) (of-none _ (poppedNode (newParticipant .place)) (unfold newParticipant poppedNode in refl)))
+      (λ ne. rw (put-other (m .own) p q newParticipant ne) (unfold write in (b .behind q hq)));
+}
+
+-- ---- along a run
+
+-- at a fresh start everybody rests
+pub popped-start : (N M : ℕ) → Popped N (view (fresh N M)) startGhost
+popped-start N M = record { behind = λ q hq. rw (rests q) (of-none _ (poppedNode Place.Rest) (unfold poppedNode in refl)) }
+  where
+    rests : (q : ℕ) → view (fresh N M) .own q .place ≡ Place.Rest
+    rests q = unfold fresh participantOf in (place-back Place.Rest)
+
+module _ (N M : ℕ) (t : Tables) (g : Ghost) (inv : Inv N M (view t) g) (b : Popped N (view t) g) where
+  -- after an event
+  pub popped-happens : {v : Event} {o : Out} (h : Happens N M t v o) → Popped N (view (o .tables)) (ghostAfter h g)
+  unfolding ghostAfter
+  popped-happens (Happens.refuses r h) = b
+  popped-happens (Happens.goes {p = p} s) = rw (view-step M p t) (popped-step N M p (view t) g inv b s)
+  popped-happens (Happens.calls {p = p} {c = c} ca) = rw (view-call N p c t) (popped-call N M p c (view t) g inv b ca)
+  popped-happens (Happens.enrols {p = p} re) = rw (view-register p t) (popped-register N M p (view t) g inv b re)
+
+  -- bags that hang on the head are as they were
+  pub bag-happens : {v : Event} {o : Out} → Happens N M t v o → (x : ℕ) → g .nodeUse x ≡ NodeUse.placed → g .pos (headOf (t .shared)) < g .pos x
+      → view (o .tables) .bag x ≡ view t .bag x
+  bag-happens (Happens.refuses r h) x placed lt = refl
+  bag-happens (Happens.goes {p = p} s) x placed lt = ap (λ (m : Machine). m .bag x) (view-step M p t) ∙ bag-step N M p (view t) g inv b s x placed lt
+  bag-happens (Happens.calls {p = p} {c = c} ca) x placed lt = ap (λ (m : Machine). m .bag x) (view-call N p c t) ∙ bag-call N M p c (view t) g inv b ca x placed lt
+  bag-happens (Happens.enrols {p = p} re) x placed lt = ap (λ (m : Machine). m .bag x) (view-register p t) ∙ (unfold registered in refl)
