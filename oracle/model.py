@@ -1,6 +1,6 @@
 """A second implementation of the port, in Python, on the same five lists of words: the public calls with every refusal, from document 01 and
 docs/RANGES.md. It shares nothing with the proved code and nothing with the Rust, and can be asked what the code must do with damaged lists,
-which the Rust cannot. `check.py` holds it to the recorded answers; `hurt.py` writes with it what the bad-input programs must write."""
+which the Rust cannot. `check.py` holds it to the recorded answers; `hurt.py`, `limits.py` and `report.py` write with it what programs must write."""
 
 WORD = 1 << 64
 MORE, DONE, REFUSED = 0, 1, 2
@@ -192,6 +192,23 @@ class Port:
         if o[PLACE] == 22 and (not free or o[SHARE] == 0):
             return REFUSED, 1, []
         return Run(self, i, o).step(free[0] if free else self.m)
+
+    def report(self, i):
+        """State, guards, handles, items held, distance of the global epoch from the word (epoch.rs, `wrapping_sub`)."""
+        o = self.p[21 * i:21 * i + 21]
+        if self.slot_free(i):
+            return 0, 0, 0, 0, 0
+        if o[NEXT] % 2 == 1:
+            return 3, 0, 0, 0, 0
+        gap = (self.g[0] - (o[WD] - o[WD] % 2)) % WORD
+        return 1 if o[PLACE] in (1, 2, 3) else 2, o[GUARDS], o[HANDLES], o[HELD], (gap - WORD if 2 * gap >= WORD else gap) // 2
+
+    def survey(self, places):
+        if not self.sized() or places != self.n:
+            return REFUSED, 2, []
+        if not self.in_range():
+            return REFUSED, 1, []
+        return DONE, 0, [self.report(i) for i in range(self.n)]
 
     def act(self, action, i, token, places=64):
         if action == STEP:

@@ -1,0 +1,33 @@
+#!/usr/bin/env python3
+"""What the program `report` (crates/report) has to write for records on standard input, by the Python model.
+
+    ./report.py < ../crates/report/stdin > ../crates/report/stdout
+"""
+import sys
+import model
+
+N, M = 32, 128
+
+
+def whole(r):
+    return len(r) == 8 and r[0] <= 8 and r[2] == r[3] == 0 and (r[0] == model.DEFER or not any(r[4:])) and (r[0] != model.REGISTER or r[1] == 0)
+
+
+def main():
+    data = sys.stdin.buffer.read()
+    port = model.Port(N, M, [[0] * k for k in model.lengths(N, M)])
+    port.start()
+    for at in range(0, len(data), 8):
+        r = data[at:at + 8]
+        if whole(r):
+            port.act(r[0], r[1], int.from_bytes(r[4:], "little"))
+    kind, number, reports = port.survey(N)
+    if kind == model.REFUSED:
+        print(f"refused {number}")
+    for i, r in enumerate(reports):
+        if r[0]:
+            print(i, *r)
+
+
+if __name__ == "__main__":
+    main()
