@@ -212,10 +212,10 @@ fn least(a: usize, b: usize) -> usize
 
 fn main() {
     let mut globals = [0u64; 8];
-    let mut participants = [0u64; 672];
-    let mut nodes = [0u64; 384];
-    let mut held = [0u64; 2048];
-    let mut queued = [0u64; 8192];
+    let mut participants = start::participant_buffer();
+    let mut nodes = start::node_buffer();
+    let mut held = start::held_buffer();
+    let mut queued = start::item_buffer();
     let mut freed = [0u64; 64];
     reclaimer::start(
         N,
