@@ -170,7 +170,7 @@ class Port:
         if action == DEFER and token > 2147483647:
             return REFUSED, 9, []
         need = self.needs(o, action)
-        if max(0, len(self.nodes_free()) - self.g[4]) < need:
+        if len(self.nodes_free()) - self.g[4] < need:
             return REFUSED, 11, []
         run = Run(self, i, o)
         run.o[SHARE] = need
@@ -228,7 +228,7 @@ class Run:
         t, o = self.port, self.o
         o[WD], o[NEXT] = t.p[21 * self.i:21 * self.i + 2]
         t.p[21 * self.i:21 * self.i + 21] = o
-        t.g[4] = max(0, t.g[4] - self.was) + o[SHARE]
+        t.g[4] = t.g[4] - self.was + o[SHARE]
         return kind, value, self.freed
 
     def on(self, place, **carried):

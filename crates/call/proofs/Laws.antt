@@ -12,7 +12,7 @@ use Rattle.definition.specs.Codec.{participantOf, placeOf}
 use Rattle.definition.specs.Tables.{Tables}
 use Rattle.definition.specs.Layout.{Lent, lent, cell, participantWords, recordAt, tablesOf}
 use Rattle.definition.specs.Ranges.{isRest}
-use Rattle.definition.specs.Public.{the, running, room}
+use Rattle.definition.specs.Public.{the, running}
 use Rattle.definition.specs.Step.{follow}
 use Rattle.definition.specs.declared.Participant.{Participant}
 use Rattle.definition.specs.declared.After.{After}
@@ -65,10 +65,10 @@ module _ (N M p : ℕ) (c : Call) (l : Lent) (s : Calls N M p c l) where
 
   -- and what the call needs is free
   total-fits : getD (l .globals) 4 0 - own .share + after .participant .share < 2 ^ 64
-  unfolding room tablesOf
+  unfolding tablesOf
   total-fits =
       let a : getD (l .globals) 4 0 ≤ M = known .aside in
-      let b : needs N c own ≤ count M (tables .nodeFree) - getD (l .globals) 4 0 = s .enough in
+      let b : getD (l .globals) 4 0 + needs N c own ≤ count M (tables .nodeFree) = s .enough in
       omega (arith, a, b, count-le M (tables .nodeFree), opens-share N c own, small, no-share)
 
   -- what the call begins may be carried out

@@ -6,13 +6,13 @@ use Prim.Native.Nat.{ℕ, _+_, _-_, _*_, _≤_, _<_}
 use native.Mathlib.Omega.{arith}
 use lib.Dec.{eqb, ltb, leb}
 use lib.ListN.{getD}
-use borrow.Author.Tests.{leb-false, ltb-false, eqb-true, eqb-false, eq-eqb, ne-eqb, le-leb, lt-leb, not-true, not-false}
+use borrow.Author.Tests.{leb-false, ltb-true, ltb-false, lt-ltb, le-ltb, eqb-true, eqb-false, eq-eqb, ne-eqb, le-leb, lt-leb, not-true, not-false}
 use Rattle.definition.specs.Base.{branch, count, least}
 use Rattle.definition.specs.Bags.{maxObjects}
 use Rattle.definition.specs.Calls.{lacks, countFull, tokenAbove, needs}
 use Rattle.definition.specs.Layout.{Lent, cell, participantWords, sized, slotBits, nodeBits, sharedFrom, tablesOf}
 use Rattle.definition.specs.Links.{isTagged}
-use Rattle.definition.specs.Public.{Check, check, refusal, takesNode, stepChecks, callChecks, registerChecks, the, damaged, absent, running, room, missing}
+use Rattle.definition.specs.Public.{Check, check, refusal, takesNode, stepChecks, callChecks, registerChecks, the, damaged, absent, running, noNode, missing}
 use Rattle.definition.specs.Ranges.{withinLimits, bitWords, isRest, bitsIn, inRange}
 use Rattle.definition.specs.Tables.{Tables}
 use Rattle.definition.specs.declared.Call.{Call}
@@ -148,14 +148,14 @@ pub record CallFine (N M : ℕ) (l : Lent) (p : ℕ) (c : Call) : Type 0 where
   pub counted : lacks c (the p (tablesOf N M l)) ≡ 0
   pub countable : countFull c (the p (tablesOf N M l)) ≡ false
   pub small : tokenAbove c ≡ false
-  pub enough : needs N c (the p (tablesOf N M l)) ≤ room N M (tablesOf N M l)
+  pub enough : tablesOf N M l .aside + needs N c (the p (tablesOf N M l)) ≤ count M (tablesOf N M l .nodeFree)
 
 -- a number that is not other than 0
 zero-is : (k : ℕ) → not (eqb k 0) ≡ false → k ≡ 0
 zero-is k h = eqb-true k 0 (sure (eqb k 0) h)
 
 pub call-fine : (N M : ℕ) (l : Lent) (p : ℕ) (c : Call) → callRefusal N M l p c ≡ 0 → CallFine N M l p c
-unfolding callRefusal callChecks
+unfolding callRefusal callChecks noNode
 call-fine N M l p c e =
     let t = tablesOf N M l in
     let k = lacks c (the p t) in
@@ -176,7 +176,7 @@ call-fine N M l p c e =
       counted = zero-is k (f .0);
       countable = g .0;
       small = h .0;
-      enough = ltb-false (room N M t) (needs N c (the p t)) (i .0);
+      enough = ltb-false (count M (t .nodeFree)) (t .aside + needs N c (the p t)) (i .0);
     }
 
 -- a registration may go on: the smallest free slot is one of N
@@ -201,6 +201,14 @@ fine-is k e = by (eqb k 0) refl e
     by false t f = let z : _≡_ {A = ℕ} 0 1 = cc in absurd (omega arith)
 
 -- ---- what the code finds, one thing after another
+
+-- what is free, less what is set aside, is below the need just where the sum of the two is above what is free
+pub below-need : (free aside need : ℕ) → aside ≤ free → ltb (free - aside) need ≡ ltb free (aside + need)
+below-need free aside need h = by (ltb free (aside + need)) refl
+  where
+    by : (b : Bool) → ltb free (aside + need) ≡ b → ltb (free - aside) need ≡ b
+    by true e = lt-ltb (free - aside) need (let k = ltb-true free (aside + need) e in omega arith)
+    by false e = le-ltb (free - aside) need (let k = ltb-false free (aside + need) e in omega arith)
 
 -- sizes that are not right; right ones, and then the ranges
 pub damage-sizes : (N M : ℕ) (l : Lent) (b : Bool) → b ≡ (withinLimits N M && sized N M l) → not b ≡ true → 2 ≡ damageOf N M l
@@ -293,10 +301,10 @@ module _ (N M : ℕ) (l : Lent) (p : ℕ) (o : Participant) (resting gone : Bool
   step-in places taking r takes e =
       e ∙ rw (lost, takes, nodes, rest, is, lt-leb N p h, not-not (isRest (row (l .participants) p .place)))
 
-  pub call-in : (c : Call) (lack : ℕ) (full above : Bool) (need left r : ℕ) → lack ≡ lacks c o → full ≡ countFull c o → above ≡ tokenAbove c
-      → need ≡ needs N c o → left ≡ free - getD (l .globals) 4 0
-      → r ≡ refusal (check 3 gone ∷ check 4 (not resting) ∷ check lack (not (eqb lack 0)) ∷ check 8 full ∷ check 9 above ∷ check 11 (ltb left need) ∷ [])
+  pub call-in : (c : Call) (lack : ℕ) (full above : Bool) (need : ℕ) (short : Bool) (r : ℕ) → lack ≡ lacks c o → full ≡ countFull c o → above ≡ tokenAbove c
+      → need ≡ needs N c o → short ≡ ltb free (getD (l .globals) 4 0 + need)
+      → r ≡ refusal (check 3 gone ∷ check 4 (not resting) ∷ check lack (not (eqb lack 0)) ∷ check 8 full ∷ check 9 above ∷ check 11 short ∷ [])
       → r ≡ refusal (callRest N M p c (tablesOf N M l))
-  unfolding absent room running tablesOf sharedFrom
-  call-in c lack full above need left r a b d f g e =
-      e ∙ rw (lost, a, b, d, f, g, nodes, rest, is, lt-leb N p h, not-not (isRest (row (l .participants) p .place)))
+  unfolding absent noNode running tablesOf sharedFrom
+  call-in c lack full above need short r a b d f g e =
+      e ∙ rw (lost, a, b, d, g, f, nodes, rest, is, lt-leb N p h, not-not (isRest (row (l .participants) p .place)))

@@ -1,7 +1,7 @@
 // The refusals of the public calls, in document 01's order: sizes (2) and ranges (1) first, then what the call itself asks.
 //
 // The Rust asks nothing of this: its types and its borrow checker see to it that a handle names a participant that is there, and its
-// counts abort where they overflow. Here every call may come with anything, so each is checked whole before it changes a word. A check
+// counts panic or wrap where they overflow. Here every call may come with anything, so each is checked whole before it changes a word. A check
 // only reads. The numbers are those of `refusal` over the definition's lists of checks (specs/Public); `Fine` says that none holds, and
 // proofs/Laws says what a caller knows then.
 use bits::bit_words;
@@ -23,8 +23,8 @@ use records::load;
 ghost use mathlib.Core.Path.{_≡_};
 ghost use mathlib.Core.Bool.{true, not, _&&_, _||_};
 ghost use mathlib.Core.List.{List, [], _∷_};
-ghost use Prim.Native.Nat.{ℕ, _+_, _-_, _*_, _≤_, _<_};
-ghost use lib.Dec.{eqb};
+ghost use Prim.Native.Nat.{ℕ, _+_, _*_, _≤_, _<_};
+ghost use lib.Dec.{eqb, ltb};
 ghost use lib.ListN.{length};
 ghost use Rattle.definition.specs.Base.{branch, count};
 ghost use Rattle.definition.specs.Layout.{lent, cell, participantWords, slotBits, nodeBits, tablesOf};
@@ -99,11 +99,14 @@ fn free_nodes(globals: &[u64], n: usize, m: usize) -> u64
     count_free(globals, node_bits_at(n), bit_words(m), m)
 }
 
-// Returns the nodes that are free and not set aside.
-fn room(free: u64, aside: u64) -> u64
-    ensures { λ r. ⌜ r ≡ free - aside ⌝ }
+// Returns whether the free nodes minus those set aside are below the need. No sum is made, so none can wrap.
+fn no_node(free: u64, aside: u64, need: u64) -> bool
+    ensures { λ r. ⌜ r ≡ ltb free (aside + need) ⌝ }
 {
-    if free < aside { 0 } else { free - aside }
+    if free < aside {
+        return true;
+    }
+    free - aside < need
 }
 
 // Returns whether slot `p`, one of `n`, is free, or its entry is deleted and no operation of it runs.
@@ -192,8 +195,8 @@ fn call_at(n: usize, m: usize, globals: &[u64], participants: &[u64], p: usize, 
     let above = token_above(c);
     let need = needs(n as u64, c, o);
     let free = free_nodes(globals, n, m);
-    let left = room(free, aside);
-    call_refusal(gone, !resting, lack, full, above, left < need)
+    let short = no_node(free, aside, need);
+    call_refusal(gone, !resting, lack, full, above, short)
 }
 
 // Returns what every call is refused for first: 2 for sizes, 1 for ranges, else 0.

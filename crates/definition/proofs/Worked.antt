@@ -38,9 +38,10 @@ unfolding Epoch.starting Epoch.isPinned Epoch.unpinned Epoch.pinned Epoch.succes
     Ranges.nodeIn Ranges.ptrIn Ranges.predIn Ranges.cursorIn Ranges.popsIn Ranges.thenIn Ranges.registerIn Ranges.walkIn Ranges.popIn
     Ranges.pushIn Ranges.placeIn Ranges.entryPointerIn Ranges.headPointerIn Ranges.nodePointerIn Ranges.endPointerIn Ranges.itemIn
     Ranges.bagIn Ranges.codeIn Ranges.recordIn Ranges.bitsIn Ranges.sharedIn Ranges.inRange Ranges.fresh Public.refusal Public.unless
-    Public.takesNode Public.running Public.newParticipant Public.enrolled Public.damaged Public.absent Public.room Public.missing
+    Public.takesNode Public.running Public.newParticipant Public.enrolled Public.damaged Public.absent Public.noNode Public.missing
     Public.callChecks Public.call Public.registerChecks Public.register Public.stepChecks Public.step Public.given Public.lending
     Public.startLent Public.registerLent Public.callLent Public.stepLent Runs.does Runs.run Schedule.tokenIn Schedule.actionOf
     Schedule.whole Schedule.played Schedule.digits Schedule.decimal Schedule.answerText Schedule.freedText Schedule.line Schedule.lines
-    Schedule.schedule Worked.noted Worked.begun Worked.stepped Worked.operated Worked.along Worked.shown Worked.reply Worked.table
+    Schedule.schedule Worked.noted Worked.begun Worked.stepped Worked.operated Worked.along Worked.shown Worked.fromStart Worked.reply
+    Worked.table
 worked = refl

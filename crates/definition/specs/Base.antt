@@ -1,4 +1,4 @@
--- What the whole definition is written with: choice, tables as functions from an index, and four ways to run over the first n indices
+-- What the whole definition is written with: choice, tables as functions from an index, and five ways to run over the first n indices
 -- of a table. Assumes nothing.
 use mathlib.Core.Bool.{Bool, true, false, _&&_}
 use mathlib.Core.List.{List, [], _∷_, _++_}

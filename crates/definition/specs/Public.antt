@@ -3,7 +3,7 @@
 -- 01's. A refusal leaves everything as it was. Assumes nothing.
 use mathlib.Core.Bool.{Bool, true, false, _&&_, _||_, not}
 use mathlib.Core.List.{List, [], _∷_, _++_}
-use Prim.Native.Nat.{ℕ, _-_}
+use Prim.Native.Nat.{ℕ, _+_}
 use lib.Dec.{eqb, ltb, leb}
 use lib.ListN.{length, drop}
 use Rattle.epoch.specs.Epoch.{starting}
@@ -88,9 +88,10 @@ module _ (N M : ℕ) where
   unfoldable pub absent : ℕ → Tables → Bool
   absent p t = leb N p || t .slotFree p || (isTagged (t .shared .entryNext p) && not (running p t))
 
-  -- the nodes that are free and not set aside
-  unfoldable pub room : Tables → ℕ
-  room t = count M (t .nodeFree) - t .aside
+  -- 11: free minus set aside is below the need. The paper subtracts integers, so the sums are compared: where more is set aside than is free,
+  -- every call is refused, one that needs no node too
+  unfoldable pub noNode : ℕ → Call → Tables → Bool
+  noNode p c t = ltb (count M (t .nodeFree)) (t .aside + needs N c (the p t))
 
   -- 1, at last: a step that must take a node finds none free, or none of its own set aside
   unfoldable pub missing : ℕ → Tables → Bool
@@ -100,7 +101,7 @@ module _ (N M : ℕ) where
   unfoldable pub callChecks : ℕ → Call → Tables → List Check
   callChecks p c t =
       check 1 (damaged t) ∷ check 3 (absent p t) ∷ check 4 (running p t) ∷ check (lacks c (the p t)) (not (eqb (lacks c (the p t)) 0))
-      ∷ check 8 (countFull c (the p t)) ∷ check 9 (tokenAbove c) ∷ check 11 (ltb (room t) (needs N c (the p t))) ∷ []
+      ∷ check 8 (countFull c (the p t)) ∷ check 9 (tokenAbove c) ∷ check 11 (noNode p c t) ∷ []
 
   unfoldable pub call : ℕ → Call → Tables → Out
   call p c t = unless (callChecks p c t) t (follow p (opens N c (the p t)) t)

@@ -1,5 +1,9 @@
 -- The cases that document 01 works by hand and marks [P], as one table: the seven distances, the runs, and the schedule program's whole
--- case, each with what it must give. proofs/Worked shows by computation that the definition gives it. Assumes nothing.
+-- case, each with what it must give. The runs are with 1 participant and 2 nodes, the fewest, and those of the first pin, of the flush that
+-- frees and of register, release, pin also with 32 and 128, the most. Of a run is shown what its last operation did, and where that left
+-- participant 0's word and bag, the global word, and every bag in the queue, with its seal and its items. Last, three cases of document 01's
+-- table of refusals: 11 where more is set aside than is free. proofs/Worked shows by computation that the definition gives it all.
+-- Assumes nothing.
 use mathlib.Core.List.{List, [], _∷_, _++_, map}
 use Prim.Native.Nat.{ℕ, zero, suc, _+_}
 use lib.IntN.{ℤ}
@@ -9,8 +13,8 @@ use Rattle.epoch.specs.Distances.{Distance, distances}
 use Rattle.definition.specs.Base.{branch}
 use Rattle.definition.specs.Links.{isNull, index}
 use Rattle.definition.specs.Bags.{items}
-use Rattle.definition.specs.Tables.{Tables}
-use Rattle.definition.specs.Step.{Out}
+use Rattle.definition.specs.Tables.{Tables, withAside}
+use Rattle.definition.specs.Step.{Out, inBag}
 use Rattle.definition.specs.Ranges.{fresh}
 use Rattle.definition.specs.Runs.{Event, does}
 use Rattle.definition.specs.Schedule.{schedule}
@@ -21,10 +25,10 @@ pub record Freed : Type 0 where
   pub inStep : ℕ
   pub tokens : List ℕ
 
--- a bag in the queue: its seal and its length
+-- a bag in the queue: its seal and its items
 pub record Queued : Type 0 where
   pub seal : ℕ
-  pub len : ℕ
+  pub holds : List Item
 
 -- what a run shows of its last operation: its steps, its answer, what it freed when; then participant 0's word, the global word, the
 -- items that participant 0 holds, and the queue
@@ -38,16 +42,18 @@ pub record Shown : Type 0 where
   pub queue : List Queued
 
 -- a question: a distance; operations of participant 0, one after another, each stepped to its end, with N participants and M nodes; the
--- output for an input of the schedule program
+-- output for an input of the schedule program; the answer to a last event, after operations, with another set-aside total in the tables
 pub data Question : Type 0 where
   distance : (a b : ℕ) → Question
   operations : (N M : ℕ) → List Event → Question
   output : List ℕ → Question
+  answer : (N M : ℕ) → List Event → (aside : ℕ) → Event → Question
 
 pub data Reply : Type 0 where
   isNumber : ℤ → Reply
   isShown : Shown → Reply
   isBytes : List ℕ → Reply
+  isAnswer : Answer → Reply
 
 -- an operation under way: the tables, the last answer, the steps made, what was freed so far
 pub record Underway : Type 0 where
@@ -83,7 +89,7 @@ unfoldable pub along : ℕ → ℕ → Tables → List Queued
 along zero h t = []
 along (suc fuel) h t =
     let w : ℕ = t .shared .nodeNext h in
-    branch (isNull w) [] (record { seal = t .bag (index w) .epoch; len = t .bag (index w) .len } ∷ along fuel (index w) t)
+    branch (isNull w) [] (record { seal = t .bag (index w) .epoch; holds = inBag (index w) t } ∷ along fuel (index w) t)
 
 unfoldable pub shown : ℕ → Underway → Shown
 shown M u = record {
@@ -96,11 +102,15 @@ shown M u = record {
   queue = along M (index (u .tables .shared .queueHead)) (u .tables);
 }
 
+-- operations from a fresh start
+unfoldable pub fromStart : (N M : ℕ) → List Event → Underway
+fromStart N M l = operated N M l (record { tables = fresh N M; answer = Answer.Done 0 0; steps = 0; freed = [] })
+
 unfoldable pub reply : Question → Reply
 reply (Question.distance a b) = Reply.isNumber (wrappingSub a b)
-reply (Question.operations N M l) =
-    Reply.isShown (shown M (operated N M l (record { tables = fresh N M; answer = Answer.Done 0 0; steps = 0; freed = [] })))
+reply (Question.operations N M l) = Reply.isShown (shown M (fromStart N M l))
 reply (Question.output b) = Reply.isBytes (schedule b)
+reply (Question.answer N M l aside v) = Reply.isAnswer (does N M v (withAside aside (fromStart N M l .tables)) .answer)
 
 pub record Case : Type 0 where
   pub asks : Question
@@ -109,12 +119,18 @@ pub record Case : Type 0 where
 abbrev pub ofDistance : Distance → Case
 ofDistance d = record { asks = Question.distance (d .a) (d .b); gives = Reply.isNumber (d .distance) }
 
--- one participant, two nodes
-abbrev pub plays : List Event → ℕ → Answer → List Freed → ℕ → ℕ → List Item → List Queued → Case
-plays l k a f own global bag queue = record {
-  asks = Question.operations 1 2 l;
+-- a run and what it shows, with N participants and M nodes; with the fewest; with the most
+abbrev pub playsOn : (N M : ℕ) → List Event → ℕ → Answer → List Freed → ℕ → ℕ → List Item → List Queued → Case
+playsOn N M l k a f own global bag queue = record {
+  asks = Question.operations N M l;
   gives = Reply.isShown (record { steps = k; answer = a; freed = f; own = own; global = global; holds = bag; queue = queue });
 }
+
+abbrev pub plays : List Event → ℕ → Answer → List Freed → ℕ → ℕ → List Item → List Queued → Case
+plays = playsOn 1 2
+
+abbrev pub playsWide : List Event → ℕ → Answer → List Freed → ℕ → ℕ → List Item → List Queued → Case
+playsWide = playsOn 32 128
 
 abbrev pub pin : Event
 pin = Event.calls 0 Call.Pin
@@ -128,15 +144,30 @@ flush = Event.calls 0 Call.Flush
 abbrev pub done : Answer
 done = Answer.Done 0 0
 
--- after the first pin: defer 7, flush; then unpin, pin, flush
+-- after the first pin: defer 7, flush; then unpin, pin, flush; then repin, flush
 abbrev pub flushed : List Event
 flushed = Event.registers ∷ pin ∷ Event.calls 0 (Call.Defer 7) ∷ flush ∷ []
 
 abbrev pub again : List Event
 again = flushed ++ unpin ∷ pin ∷ flush ∷ []
 
-abbrev pub one : List Queued
-one = record { seal = 2; len = 1 } ∷ []
+abbrev pub freeing : List Event
+freeing = again ++ Event.calls 0 Call.Repin ∷ flush ∷ []
+
+-- register, release; then pin
+abbrev pub released : List Event
+released = Event.registers ∷ Event.calls 0 Call.Release ∷ []
+
+-- 7 freed in the 9th step
+abbrev pub inNinth : List Freed
+inNinth = record { inStep = 9; tokens = 7 ∷ [] } ∷ []
+
+-- in the queue a bag with 7; an empty one
+abbrev pub seven : List Queued
+seven = record { seal = 2; holds = Item.Token 7 ∷ [] } ∷ []
+
+abbrev pub empty : List Queued
+empty = record { seal = 2; holds = [] } ∷ []
 
 unfoldable pub table : List Case
 table = map ofDistance distances ++
@@ -145,21 +176,30 @@ table = map ofDistance distances ++
     ∷ plays (Event.registers ∷ pin ∷ unpin ∷ []) 1 done [] 0 2 [] []
     ∷ plays (Event.registers ∷ pin ∷ unpin ∷ pin ∷ []) 2 done [] 3 2 [] []
     -- defer 7, flush: 11 steps, sealed with word 2, nothing freed; unpin, pin, then flush in 7 steps, global word 4; repin: 3 steps, word 5
-    ∷ plays flushed 11 done [] 1 2 [] one
-    ∷ plays again 7 done [] 3 4 [] one
-    ∷ plays (again ++ Event.calls 0 Call.Repin ∷ []) 3 done [] 5 4 [] one
+    ∷ plays flushed 11 done [] 1 2 [] seven
+    ∷ plays again 7 done [] 3 4 [] seven
+    ∷ plays (again ++ Event.calls 0 Call.Repin ∷ []) 3 done [] 5 4 [] seven
     -- flush: 11 steps, 7 freed in the 9th, node 0 now held; without that repin nothing is freed
-    ∷ plays (again ++ Event.calls 0 Call.Repin ∷ flush ∷ []) 11 done (record { inStep = 9; tokens = 7 ∷ [] } ∷ []) 5 6 (Item.Node (node 0) ∷ []) []
-    ∷ plays (again ++ flush ∷ []) 6 done [] 3 4 [] one
+    ∷ plays freeing 11 done inNinth 5 6 (Item.Node (node 0) ∷ []) []
+    ∷ plays (again ++ flush ∷ []) 6 done [] 3 4 [] seven
     -- register, then release in 16 steps, an empty bag queued; a pin then gives 3
-    ∷ plays (Event.registers ∷ Event.calls 0 Call.Release ∷ []) 16 done [] 0 2 [] (record { seal = 2; len = 0 } ∷ [])
-    ∷ plays (Event.registers ∷ Event.calls 0 Call.Release ∷ pin ∷ []) 0 (Answer.Refused 3) [] 0 2 [] (record { seal = 2; len = 0 } ∷ [])
+    ∷ plays released 16 done [] 0 2 [] empty
+    ∷ plays (released ++ pin ∷ []) 0 (Answer.Refused 3) [] 0 2 [] empty
     -- M 2: pin, defer 7, flush, defer 8, flush gives 11
-    ∷ plays (flushed ++ Event.calls 0 (Call.Defer 8) ∷ flush ∷ []) 0 (Answer.Refused 11) [] 1 2 (Item.Token 8 ∷ []) one
+    ∷ plays (flushed ++ Event.calls 0 (Call.Defer 8) ∷ flush ∷ []) 0 (Answer.Refused 11) [] 1 2 (Item.Token 8 ∷ []) seven
+    -- the same with 32 participants and 128 nodes: the first pin; the flush that frees 7; register, release, and a pin
+    ∷ playsWide (Event.registers ∷ pin ∷ []) 9 done [] 1 2 [] []
+    ∷ playsWide freeing 11 done inNinth 5 6 (Item.Node (node 0) ∷ []) []
+    ∷ playsWide released 16 done [] 0 2 [] empty
+    ∷ playsWide (released ++ pin ∷ []) 0 (Answer.Refused 3) [] 0 2 [] empty
     -- the schedule program's whole case: `more`, `more`, `more`, `done 0`, `refused 5`
     ∷ record {
       asks = Question.output (1 ∷ replicate 39 0);
       gives = Reply.isBytes (109 ∷ 111 ∷ 114 ∷ 101 ∷ 10 ∷ 109 ∷ 111 ∷ 114 ∷ 101 ∷ 10 ∷ 109 ∷ 111 ∷ 114 ∷ 101 ∷ 10
           ∷ 100 ∷ 111 ∷ 110 ∷ 101 ∷ 32 ∷ 48 ∷ 10 ∷ 114 ∷ 101 ∷ 102 ∷ 117 ∷ 115 ∷ 101 ∷ 100 ∷ 32 ∷ 53 ∷ 10 ∷ []);
     }
+    -- registered, one node free, and a set-aside total that is in range: with 2 free minus set aside is below the need of 0, with 1 it is not
+    ∷ record { asks = Question.answer 1 2 (Event.registers ∷ []) 2 (Event.calls 0 Call.Acquire); gives = Reply.isAnswer (Answer.Refused 11) }
+    ∷ record { asks = Question.answer 1 2 (Event.registers ∷ []) 2 pin; gives = Reply.isAnswer (Answer.Refused 11) }
+    ∷ record { asks = Question.answer 1 2 (Event.registers ∷ []) 1 (Event.calls 0 Call.Acquire); gives = Reply.isAnswer done }
     ∷ []

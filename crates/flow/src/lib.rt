@@ -72,7 +72,7 @@ impl Local {
     // Number of pinnings after which a participant will execute some deferred functions from the global queue.
     pub const PINNINGS_BETWEEN_COLLECT: u64 = 128;
 
-    // Maximum number of guards, and of handles: the Rust's `usize::MAX`, at which `checked_add` panics.
+    // Maximum number of guards, and of handles; in the Rust `usize::MAX`, at which a pin panics.
     pub const MAX_COUNT: u64 = 65_535;
 }
 

@@ -1,8 +1,8 @@
 // Participants in their table: a place as fourteen numbers and back, and a participant's record in its row of 21 words.
 //
 // The Rust keeps its place on the call stack, and a `Local` in memory of its own. Here a participant stands in a lent list between two
-// steps, so each of the thirty places has a number, and what it carries has a column. The first two words of a row are shared and are
-// touched by accesses alone (crate `words`); the nineteen after them are the participant's own, and only these are written here.
+// steps, so each of the thirty places has a number, and what it carries has a column. The first two words of a row are shared (crate
+// `words`); the nineteen after them are the participant's own, and only these are read and written here.
 //
 // Each promise cites the definition of like name: specs/Codec, specs/Links and specs/Layout of `definition`, and specs/Stores. A pointer
 // is written as 2(i + 1), so what writes one asks that this fits a word, `PointersFit`: it does for any place that was read, and for any

@@ -1,4 +1,4 @@
-// A step and a call on the lent lists, once every check is passed: the one access of the place at which the participant stands, and what
+// A step on the lent lists, once every check is passed: the one access of the place at which the participant stands, and what
 // follows it. The definition's `takeStep` (specs/Step of `definition`), whose tables the lists hold afterwards.
 //
 // The code is a chain of calls; that each of them may be made, and that together they are the definition's step, is proofs/Laws.

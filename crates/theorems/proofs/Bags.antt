@@ -50,12 +50,12 @@ each-in P Q (i ∷ l) f h =
     (f i (λ z. omega arith) (h .0), each-in P Q l (λ j ne. f j (λ z. ne (omega arith))) (h .1))
 
 -- a sum of nothing; an index that is not meant
-sum-none : (n : ℕ) (f : Tab ℕ) → ((i : ℕ) → i < n → f i ≡ 0) → sum n f ≡ 0
+pub sum-none : (n : ℕ) (f : Tab ℕ) → ((i : ℕ) → i < n → f i ≡ 0) → sum n f ≡ 0
 unfolding sum
 sum-none zero f h = refl
 sum-none (suc n) f h = let a = sum-none n f (λ i lt. h i (omega arith)) in let b = h n (omega arith) in omega arith
 
-is-none : (n : ℕ) (o : Option ℕ) → (o ≡ some n → ⊥) → is n o ≡ 0
+pub is-none : (n : ℕ) (o : Option ℕ) → (o ≡ some n → ⊥) → is n o ≡ 0
 is-none n none h = unfold is in refl
 is-none n (some y) h = same? n y (λ e. absurd (h (ap (λ (k : ℕ). some k) (sym e)))) (λ ne. is-other n y ne)
 

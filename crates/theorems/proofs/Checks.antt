@@ -5,7 +5,7 @@ use mathlib.Core.Path.{_≡_, refl, ap, sym, _∙_}
 use mathlib.Core.Logic.{_≢_}
 use mathlib.Core.Bool.{Bool, true, false, _&&_, _||_, not, true≢false, false≢true}
 use mathlib.Core.List.{List, [], _∷_}
-use Prim.Native.Nat.{ℕ, _-_, _%_, _^_, _<_}
+use Prim.Native.Nat.{ℕ, _+_, _%_, _^_, _<_}
 use native.Mathlib.Omega.{arith}
 use lib.Dec.{eqb, ltb, leb}
 use borrow.Author.Tests.{eqb-true, eqb-false, ltb-false, leb-false}
@@ -110,7 +110,7 @@ passes-step N M places p t g inv small h =
 
 -- a call: what it sets aside is free and not set aside
 pub passes-call : (N M p : ℕ) (c : Call) (t : Tables) (g : Ghost) → Inv N M (view t) g → refusal (callChecks N M p c t) ≡ 0 → Calls N M p c (view t)
-unfolding callChecks Public.room Public.running
+unfolding callChecks Public.noNode Public.running
 passes-call N M p c t g inv h =
     let a = passes 1 (damaged N M t) _ (λ z. omega arith) h in
     let b = passes 3 (absent N M p t) _ (λ z. omega arith) (a .1) in
@@ -118,7 +118,7 @@ passes-call N M p c t g inv h =
     let e = passes-lack (lacks c (the p t)) _ (d .1) in
     let f = passes 8 (countFull c (the p t)) _ (λ z. omega arith) (e .1) in
     let i = passes 9 (tokenAbove c) _ (λ z. omega arith) (f .1) in
-    let j = passes 11 (ltb (count M (t .nodeFree) - t .aside) (needs N c (the p t))) _ (λ z. omega arith) (i .1) in
+    let j = passes 11 (ltb (count M (t .nodeFree)) (t .aside + needs N c (the p t))) _ (λ z. omega arith) (i .1) in
     let r = not-false (isRest (the p t .place)) (d .0) in
     record {
       here = here N M p t (b .0);
@@ -128,7 +128,7 @@ passes-call N M p c t g inv h =
       able = e .0;
       below = f .0;
       token = i .0;
-      room = let k = ltb-false (count M (t .nodeFree) - t .aside) (needs N c (the p t)) (j .0) in let l = inv .roomy .enough in omega arith;
+      room = let k = ltb-false (count M (t .nodeFree)) (t .aside + needs N c (the p t)) (j .0) in omega arith;
     }
 
 -- a registering: the smallest free slot is one
@@ -201,7 +201,7 @@ module _ (N M : ℕ) (t : Tables) (g : Ghost) (inv : Inv N M (view t) g) (st : S
       (λ _. other (lacks c (the p t)) (not (eqb (lacks c (the p t)) 0)) _ (lacks-other c (the p t))
       (λ _. other 8 (countFull c (the p t)) _ (λ z. omega arith)
       (λ _. other 9 (tokenAbove c) _ (λ z. omega arith)
-      (λ _. other 11 (ltb (Public.room N M t) (needs N c (the p t))) _ (λ z. omega arith) (λ _. none-left))))))
+      (λ _. other 11 (Public.noNode N M p c t) _ (λ z. omega arith) (λ _. none-left))))))
       (sym (skips 1 (damaged N M t) _ (never-damaged N M t g inv st)) ∙ e)
 
   -- of a registering

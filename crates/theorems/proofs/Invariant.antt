@@ -15,6 +15,7 @@ use Rattle.definition.specs.Bags.{maxObjects}
 use Rattle.definition.specs.Flow.{collectSteps, waiting}
 use Rattle.definition.specs.Internal.{collects}
 use Rattle.definition.specs.Tables.{Shared}
+unfoldable pub use Rattle.theorems.specs.Waiting.{takenNode, poppedNode}
 use Rattle.theorems.proofs.Machine.{Machine}
 use Rattle.theorems.proofs.Ghost.{Use, NodeUse, Ghost, num, G, headOf, tailOf, low}
 use Rattle.theorems.proofs.Types.{Epoch, Slot, Node, Ptr, Pred, Item, Owner, Deferring, Then, RegisterAt, RepinAt, WalkAt, PopAt, PushAt, Place, Participant}
@@ -100,28 +101,8 @@ waitingItem (Place.Push Then.Finalize a) = none
 waitingItem Place.FinalWord = none
 waitingItem Place.FinalTag = none
 
--- the node that a push has taken and not yet linked; the old head of a pop that has not yet retired it; the popped node whose bag is to be freed
-unfoldable pub takenNode : Place → Option ℕ
-takenNode Place.Rest = none
-takenNode (Place.Register a) = none
-takenNode (Place.PinEpoch k) = none
-takenNode (Place.PinWord k e) = none
-takenNode (Place.Repin a) = none
-takenNode Place.UnpinWord = none
-takenNode (Place.AdvanceEpoch k) = none
-takenNode (Place.Walk t a) = none
-takenNode (Place.AdvanceWord t curr succ) = none
-takenNode (Place.AdvanceStore t) = none
-takenNode (Place.Pop p a) = none
-takenNode (Place.Push f PushAt.Epoch) = none
-takenNode (Place.Push f (PushAt.Tail new)) = some (new .0)
-takenNode (Place.Push f (PushAt.Next new onto)) = some (new .0)
-takenNode (Place.Push f (PushAt.Help new onto next)) = some (new .0)
-takenNode (Place.Push f (PushAt.Link new onto)) = some (new .0)
-takenNode (Place.Push f (PushAt.Move new onto)) = none
-takenNode Place.FinalWord = none
-takenNode Place.FinalTag = none
-
+-- the node that a push has taken and not yet linked, and the popped node whose bag is to be freed, are words of the statement (specs/Waiting); the old head
+-- of a pop that has not yet retired it
 unfoldable pub oldHead : Place → Option ℕ
 oldHead Place.Rest = none
 oldHead (Place.Register a) = none
@@ -141,30 +122,6 @@ oldHead (Place.Pop p (PopAt.TailMove head next)) = some (head .0)
 oldHead (Place.Push f a) = none
 oldHead Place.FinalWord = none
 oldHead Place.FinalTag = none
-
-unfoldable pub poppedNode : Place → Option ℕ
-poppedNode Place.Rest = none
-poppedNode (Place.Register a) = none
-poppedNode (Place.PinEpoch k) = none
-poppedNode (Place.PinWord k e) = none
-poppedNode (Place.Repin a) = none
-poppedNode Place.UnpinWord = none
-poppedNode (Place.AdvanceEpoch k) = none
-poppedNode (Place.Walk t a) = none
-poppedNode (Place.AdvanceWord t curr succ) = none
-poppedNode (Place.AdvanceStore t) = none
-poppedNode (Place.Pop p PopAt.Head) = none
-poppedNode (Place.Pop p (PopAt.Next head)) = none
-poppedNode (Place.Pop p (PopAt.Exchange head next)) = none
-poppedNode (Place.Pop p (PopAt.Tail head next)) = some (next .0)
-poppedNode (Place.Pop p (PopAt.TailMove head next)) = some (next .0)
-poppedNode (Place.Push (Then.Defer (Deferring.Token token)) a) = none
-poppedNode (Place.Push (Then.Defer (Deferring.Slot t c succ)) a) = none
-poppedNode (Place.Push (Then.Defer (Deferring.Node p head next)) a) = some (next .0)
-poppedNode (Place.Push Then.Flush a) = none
-poppedNode (Place.Push Then.Finalize a) = none
-poppedNode Place.FinalWord = none
-poppedNode Place.FinalTag = none
 
 -- a fact about what a place carries, if it carries it
 unfoldable pub Of : {A : Type 0} → (A → Type 0) → Option A → Type 0

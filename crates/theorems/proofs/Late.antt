@@ -1,23 +1,24 @@
--- No early free. Take a point of a run at which a token was never retired, and a participant that is pinned there; let r be the global epoch then. The
+-- No early free. Take a point of a run at which a token was freed as often as it was retired, so that it waits nowhere, and a participant that is pinned there; let r be the global epoch then. The
 -- pin is of r at most. From then on every bag that holds the token was sealed at r or later, and a bag is freed two epochs after its seal: but the
 -- global epoch is at most one ahead of any pin. So if the token is freed, the participant's word has changed since. Assumes nothing.
 use mathlib.Core.Path.{_≡_, refl, ap, sym, _∙_}
 use mathlib.Core.Logic.{_≢_}
 use mathlib.Core.Bool.{Bool, true, false}
 use mathlib.Core.List.{List, [], _∷_, _++_}
-use Prim.Native.Nat.{ℕ, _+_, _^_, _≤_, _<_}
+use Prim.Native.Nat.{ℕ, zero, suc, _+_, _^_, _≤_, _<_}
 use native.Mathlib.Omega.{arith}
 use native.Mathlib.Nat.{le-refl}
 use lib.Dec.{eqb}
 use borrow.Author.Tests.{eqb-true}
 use Rattle.epoch.specs.Epoch.{isPinned}
+use Rattle.definition.specs.Base.{branch}
 use Rattle.definition.specs.Tables.{Shared, Tables, write}
 use Rattle.definition.specs.Calls.{opens}
 use Rattle.definition.specs.Ranges.{fresh}
 use Rattle.definition.specs.Step.{Out}
 use Rattle.definition.specs.Public.{enrolled}
-use Rattle.definition.proofs.Base.{same?, put-same, put-other, both}
-use Rattle.theorems.specs.OnTables.{Event, does, after, advances, retired, unchanged}
+use Rattle.definition.proofs.Base.{same?, put-same, put-other}
+use Rattle.theorems.specs.OnTables.{Event, does, after, advances, retired, freed, changes}
 use Rattle.theorems.specs.Waiting.{times}
 use Rattle.theorems.proofs.Machine.{Machine, view, withShared, works, followed}
 use Rattle.theorems.proofs.Ghost.{Ghost, num, G}
@@ -32,7 +33,7 @@ use Rattle.theorems.proofs.EpochsKept.{SealOf, kind-seal, gpin-step, wo
 use Rattle.theorems.proofs.Checks.{view-register}
 use Rattle.theorems.proofs.Runs.{Happens, happens, ghostAfter, inv-happens, stored-happens, epoch-does, sound-after, sound-fresh, fresh-epoch}
 use Rattle.theorems.proofs.Runs as R
-use Rattle.theorems.proofs.Tokens.{waiting-is, step-freed, call-freed, balanced}
+use Rattle.theorems.proofs.Tokens.{step-freed, call-freed, occurring}
 use Rattle.theorems.proofs.Types.{Item, Work, Call}
 
 -- ---- bags that hold the token were sealed late
@@ -108,6 +109,12 @@ record Watched (N M d x r w : ℕ) (t : Tables) : Type 0 where
   since : sound .ghost .gpin d ≤ r
   word : t .shared .word d ≡ w
 
+-- a word that did not change is as it was
+stood : (b : Bool) → branch {A = ℕ} b 0 1 ≡ 0 → b ≡ true
+unfolding branch
+stood true e = refl
+stood false e = absurd (omega arith)
+
 module _ (N M d x r w : ℕ) where
   -- through one event
   watched-does : (t : Tables) → Watched N M d x r w t → G (view t) < 2 ^ 62 → (v : Event) → does N M v t .tables .shared .word d ≡ t .shared .word d
@@ -123,13 +130,13 @@ module _ (N M d x r w : ℕ) where
       }
 
   -- through many
-  watched-after : (l : List Event) (t : Tables) → Watched N M d x r w t → G (view t) + advances N M l t < 2 ^ 62 → unchanged N M d l t ≡ true → Watched N M d x r w (after N M l t)
-  unfolding after advances unchanged
+  watched-after : (l : List Event) (t : Tables) → Watched N M d x r w t → G (view t) + advances N M l t < 2 ^ 62 → changes N M d l t ≡ 0 → Watched N M d x r w (after N M l t)
+  unfolding after advances changes
   watched-after [] t k lt e = k
   watched-after (v ∷ l) t k lt e =
-      let b = both (eqb (does N M v t .tables .shared .word d) (t .shared .word d)) (unchanged N M d l (does N M v t .tables)) e in
+      let b : eqb (does N M v t .tables .shared .word d) (t .shared .word d) ≡ true = stood (eqb (does N M v t .tables .shared .word d) (t .shared .word d)) (omega arith) in
       let u = epoch-does N M t (k .sound) (omega arith) v in
-      watched-after l (does N M v t .tables) (watched-does t k (omega arith) v (eqb-true (does N M v t .tables .shared .word d) (t .shared .word d) (b .0))) (omega arith) (b .1)
+      watched-after l (does N M v t .tables) (watched-does t k (omega arith) v (eqb-true (does N M v t .tables .shared .word d) (t .shared .word d) b)) (omega arith) (omega arith)
 
   -- ---- the token is not freed meanwhile
 
@@ -184,7 +191,7 @@ module _ (N M : ℕ) where
 
   -- the theorem
   module _ (hN : 1 ≤ N) (hM : 2 ≤ M) (before since : List Event) (v : Event) (short : advances N M (before ++ since) (fresh N M) < 2 ^ 62) (x d : ℕ) (hd : d < N)
-      (new : retired N M x before (fresh N M) ≡ 0) (pin : isPinned (after N M before (fresh N M) .shared .word d) ≡ true) where
+      (new : retired N M x before (fresh N M) ≡ freed N M x before (fresh N M)) (pin : isPinned (after N M before (fresh N M) .shared .word d) ≡ true) where
     -- the tables at the point taken
     abbrev t₁ : Tables
     t₁ = after N M before (fresh N M)
@@ -202,19 +209,16 @@ module _ (N M : ℕ) where
         let u = k .1 in
         (k .0, omega arith)
 
-    -- the token is nowhere, since it was never retired
+    -- the token is nowhere, since it was freed as often as it was retired
     nowhere : occurs N M (view t₁) (Item.Token x) ≡ 0
-    nowhere =
-        let a = balanced N M hN hM before (bound .0) x in
-        let b = waiting-is N M x t₁ in
-        omega arith
+    nowhere = let a = occurring N M hN hM before (bound .0) x in omega arith
 
     -- the watch begins
     start : Watched N M d x (G (view t₁)) (t₁ .shared .word d) t₁
     start = record { sound = there .0; late = none-late x t₁ nowhere; since = there .0 .inv .epochs .pinLe d hd pin; word = refl }
 
     -- as long as the word stands still the token is not freed
-    still : unchanged N M d since t₁ ≡ true → times x (does N M v (after N M (before ++ since) (fresh N M)) .freed) ≡ 0
+    still : changes N M d since t₁ ≡ 0 → times x (does N M v (after N M (before ++ since) (fresh N M)) .freed) ≡ 0
     still e =
         let b = bound .1 in
         let c = there .1 in
@@ -225,9 +229,9 @@ module _ (N M : ℕ) where
         (happens N M (after N M since t₁) (k .sound .ghost) (k .sound .inv) (k .sound .stored) (omega arith) v))
 
     -- so if it is freed, the word changed
-    pub not-early : times x (does N M v (after N M (before ++ since) (fresh N M)) .freed) ≢ 0 → unchanged N M d since t₁ ≡ false
-    not-early ne = go (unchanged N M d since t₁) refl
+    pub not-early : 1 ≤ times x (does N M v (after N M (before ++ since) (fresh N M)) .freed) → 1 ≤ changes N M d since t₁
+    not-early some-freed = go (changes N M d since t₁) refl
       where
-        go : (b : Bool) → unchanged N M d since t₁ ≡ b → b ≡ false
-        go true e = absurd (ne (still e))
-        go false e = refl
+        go : (k : ℕ) → changes N M d since t₁ ≡ k → 1 ≤ k
+        go zero e = let z = still e in absurd (omega arith)
+        go (suc k) e = omega arith

@@ -23,8 +23,8 @@ use Rattle.definition.specs.Survey.{surveyLent}
 use Rattle.definition.proofs.Base.{and-intro}
 use Rattle.theorems.specs.Waiting.{times}
 use Rattle.theorems.specs.Order.{bags}
-use Rattle.theorems.specs.Statement.{Event, frees, number, words}
-use Rattle.theorems.specs.Statement as S
+use Rattle.theorems.specs.Events.{Event, frees, number, words}
+use Rattle.theorems.specs.Events as S
 use Rattle.theorems.specs.OnTables as On
 use Rattle.theorems.proofs.Machine.{Machine, view, followed}
 use Rattle.theorems.proofs.Frames.{works-word}
@@ -149,7 +149,7 @@ pub record Same (N M : ℕ) (run : List Event) (t : Tables) : Type 0 where
   pub advances : S.advances N M run (lentOf N M t) ≡ On.advances N M (tabled run) t
   pub retired : (x : ℕ) → S.retired N M x run (lentOf N M t) ≡ On.retired N M x (tabled run) t
   pub freed : (x : ℕ) → S.freed N M x run (lentOf N M t) ≡ On.freed N M x (tabled run) t
-  pub unchanged : (d : ℕ) → S.unchanged N M d run (lentOf N M t) ≡ On.unchanged N M d (tabled run) t
+  pub changes : (d : ℕ) → S.changes N M d run (lentOf N M t) ≡ On.changes N M d (tabled run) t
   pub links : S.links N M run (lentOf N M t) ≡ On.links N M (tabled run) t
   pub leaves : S.leaves N M run (lentOf N M t) ≡ On.leaves N M (tabled run) t
 
@@ -159,8 +159,8 @@ words-back N M t clean = ap (λ (u : Tables). u .shared) (tables-back N M t clea
 
 module _ (N M : ℕ) where
   same-none : (t : Tables) → Same N M [] t
-  unfolding tabled S.after S.advances S.retired S.freed S.unchanged S.links S.leaves On.after On.advances On.retired On.freed On.unchanged On.links On.leaves
-  same-none t = record { after = refl; advances = refl; retired = λ x. refl; freed = λ x. refl; unchanged = λ d. refl; links = refl; leaves = refl }
+  unfolding tabled S.after S.advances S.retired S.freed S.changes S.links S.leaves On.after On.advances On.retired On.freed On.changes On.links On.leaves
+  same-none t = record { after = refl; advances = refl; retired = λ x. refl; freed = λ x. refl; changes = λ d. refl; links = refl; leaves = refl }
 
   -- one event more
   module _ (v : Event) (v′ : On.Event) (run : List Event) (t : Tables) (pair : onTables v ≡ v′ ∷ []) (counts : (x : ℕ) (a : Answer) → S.accepts x v a ≡ On.accepts x v′ a)
@@ -169,13 +169,13 @@ module _ (N M : ℕ) where
     t′ = On.does N M v′ t .tables
 
     same-more : Same N M run t′ → Same N M (v ∷ run) t
-    unfolding tabled S.after S.advances S.retired S.freed S.unchanged S.links S.leaves On.after On.advances On.retired On.freed On.unchanged On.links On.leaves
+    unfolding tabled S.after S.advances S.retired S.freed S.changes S.links S.leaves On.after On.advances On.retired On.freed On.changes On.links On.leaves
     same-more k = record {
       after = rw (pair, one .lent) (k .after);
       advances = rw (pair, one .lent, words-back N M t clean, words-back N M t′ clean′, k .advances) refl;
       retired = λ x. rw (pair, one .lent, one .answer, counts x (On.does N M v′ t .answer), k .retired x) refl;
       freed = λ x. rw (pair, one .tokens, one .lent, k .freed x) refl;
-      unchanged = λ d. rw (pair, one .lent, words-back N M t clean, words-back N M t′ clean′, k .unchanged d) refl;
+      changes = λ d. rw (pair, one .lent, words-back N M t clean, words-back N M t′ clean′, k .changes d) refl;
       links = rw (pair, one .lent, words-back N M t clean, words-back N M t′ clean′, tables-back N M t′ clean′, k .links) refl;
       leaves = rw (pair, one .lent, words-back N M t clean, words-back N M t′ clean′, tables-back N M t′ clean′, k .leaves) refl;
     }
@@ -186,13 +186,13 @@ module _ (N M : ℕ) where
     w = words N M (lentOf N M t)
 
     same-survey : Same N M run t → Same N M (Event.surveys reports ∷ run) t
-    unfolding tabled onTables S.does S.after S.advances S.retired S.freed S.unchanged S.links S.leaves S.accepts
+    unfolding tabled onTables S.does S.after S.advances S.retired S.freed S.changes S.links S.leaves S.accepts
     same-survey k = record {
       after = k .after;
       advances = rw (eq-eqb (w .globalEpoch) (w .globalEpoch) refl) (unfold branch in (zero-add _ ∙ k .advances));
       retired = λ x. zero-add _ ∙ k .retired x;
       freed = λ x. unfold frees in (rw (take-nil {A = ℕ} (number (surveyLent N M (lentOf N M t) reports .answer))) (unfold times in (zero-add _ ∙ k .freed x)));
-      unchanged = λ d. rw (eq-eqb (w .word d) (w .word d) refl) (k .unchanged d);
+      changes = λ d. rw (eq-eqb (w .word d) (w .word d) refl) (unfold branch in (zero-add _ ∙ k .changes d));
       links = rw (linked-none M w w (λ x _. turns-same w w x refl)) (unfold bags in (k .links));
       leaves = rw (left-none w w refl) (unfold bags in (k .leaves));
     }

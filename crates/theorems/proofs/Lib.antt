@@ -41,11 +41,14 @@ pub mod Start
 pub mod Checks
 pub mod Runs
 pub mod Popped
+pub mod Counted
 pub mod Leaving
 pub mod Tokens
 pub mod Late
+pub mod Guarded
 pub mod Back
 pub mod Clean
 pub mod Lent
 pub mod Theorem
 pub mod TailMove
+pub mod Example

@@ -1,5 +1,5 @@
 -- Demand 3: the reclaimer reclaims. The statement is specs/Statement, on lent lists (`reclaims`), from the same on tables (`reclaims-on-tables`):
--- there the balance is Tokens, no early free is Late, the order of bags is Leaving, refusal 1 is Checks, and that the invariant holds along
+-- there the balance is Tokens, no early free is Late, guards and words are Guarded, the order of bags is Leaving, refusal 1 is Checks, and that the invariant holds along
 -- every run is Runs. That a run on lists is a run on tables is Lent. Assumes nothing.
 use mathlib.Core.Path.{_≡_, refl, ap, sym, _∙_}
 use mathlib.Core.Logic.{_≢_}
@@ -7,22 +7,24 @@ use mathlib.Core.Bool.{Bool, true, false, _&&_}
 use mathlib.Core.List.{List, [], _∷_, _++_}
 use Prim.Native.Nat.{ℕ, _+_, _^_, _≤_, _<_}
 use native.Mathlib.Omega.{arith}
-use lib.Dec.{eqb}
+use lib.Dec.{eqb, leb}
 use lib.ListN.{length}
 use lib.Seq.{take-nil}
 use borrow.Author.Tests.{leb-true, eq-eqb}
 use Rattle.epoch.specs.Epoch.{isPinned}
 use Rattle.definition.specs.Base.{branch, listed}
+use Rattle.definition.specs.Links.{isTagged}
 use Rattle.definition.specs.Tables.{Tables}
 use Rattle.definition.specs.Ranges.{withinLimits, fresh}
 use Rattle.definition.specs.Layout.{Lent, sized, tablesOf, lentOf}
 use Rattle.definition.specs.Step.{answerOf}
-use Rattle.definition.specs.Public.{Outcome, lending, given, kept, startLent, damaged}
+use Rattle.definition.specs.Public.{Outcome, lending, given, kept, startLent, damaged, running}
 use Rattle.definition.specs.Survey.{reportOf, Surveyed, surveyLent}
-use Rattle.definition.proofs.Base.{both}
+use Rattle.definition.proofs.Base.{both, branch-true}
 use Rattle.theorems.specs.Waiting.{times, waiting}
-use Rattle.theorems.specs.Statement.{Event, frees, number, words, started, Short, reached, InOrder, Reclaims, Demand}
-use Rattle.theorems.specs.Statement as S
+use Rattle.theorems.specs.Events.{Event, frees, number, words, Pinned, Changed, Frees, InOrder}
+use Rattle.theorems.specs.Events as S
+use Rattle.theorems.specs.Statement.{started, Short, reached, Reclaims, Demand}
 use Rattle.theorems.specs.OnTables.{ReclaimsOnTables}
 use Rattle.theorems.specs.OnTables as On
 use Rattle.theorems.proofs.Machine.{view}
@@ -32,28 +34,30 @@ use Rattle.theorems.proofs.Runs.{Sound, sound-run, sound-fresh, sound-a
 use Rattle.theorems.proofs.Checks.{answers, refused-is}
 use Rattle.theorems.proofs.Tokens.{balanced}
 use Rattle.theorems.proofs.Late.{not-early}
+use Rattle.theorems.proofs.Guarded as G′
 use Rattle.theorems.proofs.Leaving.{in-order}
 use Rattle.theorems.proofs.Back.{Clean, tables-back}
 use Rattle.theorems.proofs.Clean.{fresh-clean, clean-run}
 use Rattle.theorems.proofs.Lent.{tabled, tabled-more, advances-more, carries-step, carries-register, carries-call, Same, same, words-back, words-kept}
 use Rattle.theorems.proofs.Types.{End, Call, Answer, Report}
 
--- for any number of participants, and any number of nodes from 2 on
+-- for any number of participants from 1 on, and any number of nodes from 2 on
 pub reclaims-on-tables : (N M : ℕ) → 1 ≤ N → 2 ≤ M → ReclaimsOnTables N M
 reclaims-on-tables N M hN hM = record {
   balance = λ l short x. balanced N M hN hM l short x;
   once = λ l short x e. let b = balanced N M hN hM l short x in omega arith;
-  late = λ before since v short x d hd new pin ne. not-early N M hN hM before since v short x d hd new pin ne;
-  whole = λ l short v. let s = sound-run N M hN hM l short .0 in never-1 N M _ (s .ghost) (s .inv) (s .stored) v;
+  notEarly = λ before since v short x d hd new pin frees. not-early N M hN hM before since v short x d hd new pin frees;
+  guarded = λ l short d hd. G′.guarded N M hN hM l short d hd;
+  neverDamaged = λ l short v. let s = sound-run N M hN hM l short .0 in never-1 N M _ (s .ghost) (s .inv) (s .stored) v;
   order = λ l short. in-order N M hN hM l short;
 }
 
 -- ---- on lent lists
 
 -- a start that was not refused was within the limits and filled the lists
-record Starts (N M : ℕ) (l : Lent) : Type 0 where
-  limits : withinLimits N M ≡ true
-  lent : started N M l ≡ lentOf N M (fresh N M)
+pub record Starts (N M : ℕ) (l : Lent) : Type 0 where
+  pub limits : withinLimits N M ≡ true
+  pub lent : started N M l ≡ lentOf N M (fresh N M)
 
 started-is : (N M : ℕ) (l : Lent) → startLent N M l .answer ≡ Answer.Done 0 0 → Starts N M l
 unfolding startLent lending given branch answerOf
@@ -82,9 +86,9 @@ survey-frees : (N M : ℕ) (l : Lent) (reports : List Report) (x : ℕ) → time
 unfolding S.does frees times
 survey-frees N M l reports x = rw (take-nil {A = ℕ} (number (surveyLent N M l reports .answer))) refl
 
--- a conjunction that fails though its first part holds
-second : (a b : Bool) → a ≡ true → (a && b) ≡ false → b ≡ false
-second a b h e = rw h at e
+-- a word changed, though not at first
+stood-first : (a : Bool) (k : ℕ) → a ≡ true → 1 ≤ branch {A = ℕ} a 0 1 + k → 1 ≤ k
+stood-first a k h le = let z : branch {A = ℕ} a 0 1 ≡ 0 = branch-true 0 1 h in omega arith
 
 -- the limits hold at least one participant and two nodes
 limits-say : (N M : ℕ) → withinLimits N M ≡ true → (1 ≤ N) × (2 ≤ M)
@@ -96,7 +100,7 @@ limits-say N M h =
     (leb-true 1 N (c .0), leb-true 2 M (b .1))
 
 module _ (N M : ℕ) (l : Lent) (ok : startLent N M l .answer ≡ Answer.Done 0 0) where
-  start : Starts N M l
+  pub start : Starts N M l
   start = started-is N M l ok
 
   hN : 1 ≤ N
@@ -109,10 +113,10 @@ module _ (N M : ℕ) (l : Lent) (ok : startLent N M l .answer ≡ Answer.Done 0 
   on : ReclaimsOnTables N M
   on = reclaims-on-tables N M hN hM
 
-  abbrev at : List Event → Tables
+  abbrev pub at : List Event → Tables
   at run = On.after N M (tabled run) (fresh N M)
 
-  run-same : (run : List Event) → Short N M l run → Same N M run (fresh N M)
+  pub run-same : (run : List Event) → Short N M l run → Same N M run (fresh N M)
   run-same run short =
       let e = fresh-epoch N M in
       let k : S.advances N M run (lentOf N M (fresh N M)) < 2 ^ 62 = rw (← start .lent) short in
@@ -121,14 +125,14 @@ module _ (N M : ℕ) (l : Lent) (ok : startLent N M l .answer ≡ Answer.Done 0 
   few : (run : List Event) → Short N M l run → On.advances N M (tabled run) (fresh N M) < 2 ^ 62
   few run short = rw (← run-same run short .advances, ← start .lent) short
 
-  clean : (run : List Event) → Short N M l run → Clean N M (at run)
+  pub clean : (run : List Event) → Short N M l run → Clean N M (at run)
   clean run short = clean-run N M hN hM (tabled run) (few run short)
 
-  sound : (run : List Event) → Short N M l run → Sound N M (at run) × (G (view (at run)) < 2 ^ 62)
+  pub sound : (run : List Event) → Short N M l run → Sound N M (at run) × (G (view (at run)) < 2 ^ 62)
   sound run short = sound-run N M hN hM (tabled run) (few run short)
 
   -- the lists that are reached hold the tables that are reached
-  reaches : (run : List Event) → Short N M l run → reached N M l run ≡ lentOf N M (at run)
+  pub reaches : (run : List Event) → Short N M l run → reached N M l run ≡ lentOf N M (at run)
   reaches run short = rw (start .lent) (run-same run short .after)
 
   -- the balance
@@ -139,7 +143,7 @@ module _ (N M : ℕ) (l : Lent) (ok : startLent N M l .answer ≡ Answer.Done 0 
       rw (reaches run short, tables-back N M (at run) (clean run short), start .lent, k .retired x, k .freed x) (on .balance (tabled run) (few run short) x)
 
   -- the order
-  order : (run : List Event) → Short N M l run → InOrder N M l run
+  order : (run : List Event) → Short N M l run → InOrder N M run (started N M l)
   order run short =
       let k = run-same run short in
       let o = on .order (tabled run) (few run short) in
@@ -149,9 +153,14 @@ module _ (N M : ℕ) (l : Lent) (ok : startLent N M l .answer ≡ Answer.Done 0 
         hangs = rw (reaches run short, words-back N M (at run) (clean run short)) (o .hangs);
       }
 
+  -- guards and words
+  guarded : (run : List Event) → Short N M l run → (d : ℕ) → d < N → let t = tablesOf N M (reached N M l run) in
+      t .slotFree d ≡ false → isTagged (t .shared .entryNext d) ≡ false → running d t ≡ false → isPinned (t .shared .word d) ≡ leb 1 (t .own d .counts .guards)
+  guarded run short d hd = rw (reaches run short, tables-back N M (at run) (clean run short)) (on .guarded (tabled run) (few run short) d hd)
+
   -- refusal 1
-  whole : (run : List Event) → Short N M l run → (v : Event) → S.does N M v (reached N M l run) .answer ≢ Answer.Refused 1
-  whole run short v = rw (reaches run short) (by v)
+  never-1-on : (run : List Event) → Short N M l run → (v : Event) → S.does N M v (reached N M l run) .answer ≢ Answer.Refused 1
+  never-1-on run short v = rw (reaches run short) (by v)
     where
       t : Tables
       t = at run
@@ -166,9 +175,9 @@ module _ (N M : ℕ) (l : Lent) (ok : startLent N M l .answer ≡ Answer.Done 0 
       c = clean run short
 
       by : (v : Event) → S.does N M v (lentOf N M t) .answer ≢ Answer.Refused 1
-      by (Event.steps p places) = rw (carries-step N M (start .limits) t s c small p places .answer) (on .whole (tabled run) (few run short) (On.Event.steps (length places) p))
-      by Event.registers = rw (carries-register N M (start .limits) t s c small .answer) (on .whole (tabled run) (few run short) On.Event.registers)
-      by (Event.calls p q) = rw (carries-call N M (start .limits) t s c small p q .answer) (on .whole (tabled run) (few run short) (On.Event.calls p q))
+      by (Event.steps p places) = rw (carries-step N M (start .limits) t s c small p places .answer) (on .neverDamaged (tabled run) (few run short) (On.Event.steps (length places) p))
+      by Event.registers = rw (carries-register N M (start .limits) t s c small .answer) (on .neverDamaged (tabled run) (few run short) On.Event.registers)
+      by (Event.calls p q) = rw (carries-call N M (start .limits) t s c small p q .answer) (on .neverDamaged (tabled run) (few run short) (On.Event.calls p q))
       by (Event.surveys reports) = survey-never N M t c (never-damaged N M t (s .ghost) (s .inv) (s .stored)) reports
 
   -- no early free
@@ -177,7 +186,7 @@ module _ (N M : ℕ) (l : Lent) (ok : startLent N M l .answer ≡ Answer.Done 0 
     short-before = let e = advances-more N M before since (started N M l) in omega arith
 
     -- from the point before the retirement on
-    since-same : Same N M since (at before)
+    pub since-same : Same N M since (at before)
     since-same =
         let e = advances-more N M before since (started N M l) in
         let k : S.advances N M since (reached N M l before) ≡ S.advances N M since (lentOf N M (at before)) = rw (reaches before short-before) refl in
@@ -187,18 +196,19 @@ module _ (N M : ℕ) (l : Lent) (ok : startLent N M l .answer ≡ Answer.Done 0 
         let u = sound-after N M (tabled before) (fresh N M) (sound-fresh N M hN hM) (omega arith) .1 in
         same N M (start .limits) since (at before) (sound before short-before .0) (clean before short-before) (omega arith)
 
-    early : (x d : ℕ) → d < N → S.retired N M x before (started N M l) ≡ 0 → isPinned (words N M (reached N M l before) .word d) ≡ true
-        → (v : On.Event) → times x (On.does N M v (at (before ++ since)) .freed) ≢ 0 → S.unchanged N M d since (reached N M l before) ≡ false
-    early x d hd new pin v ne =
-        rw (reaches before short-before, since-same .unchanged d)
-        (on .late (tabled before) (tabled since) v (rw (← tabled-more before since) (few (before ++ since) short)) x d hd
-        (sym (run-same before short-before .retired x) ∙ (rw (← start .lent) new))
+    early : (x d : ℕ) → d < N → S.retired N M x before (started N M l) ≡ S.freed N M x before (started N M l) → Pinned N M d (reached N M l before)
+        → (v : On.Event) → 1 ≤ times x (On.does N M v (at (before ++ since)) .freed) → Changed N M d since (reached N M l before)
+    early x d hd new pin v some-freed =
+        let again : S.retired N M x before (lentOf N M (fresh N M)) ≡ S.freed N M x before (lentOf N M (fresh N M)) = rw (← start .lent) new in
+        rw (reaches before short-before, since-same .changes d)
+        (on .notEarly (tabled before) (tabled since) v (rw (← tabled-more before since) (few (before ++ since) short)) x d hd
+        (sym (run-same before short-before .retired x) ∙ again ∙ run-same before short-before .freed x)
         (rw (← words-back N M (at before) (clean before short-before), ← reaches before short-before) pin)
-        (rw (← tabled-more before since) ne))
+        (rw (← tabled-more before since) some-freed))
 
-    late : (v : Event) (x d : ℕ) → d < N → S.retired N M x before (started N M l) ≡ 0 → isPinned (words N M (reached N M l before) .word d) ≡ true
-        → times x (frees (S.does N M v (reached N M l (before ++ since)))) ≢ 0 → S.unchanged N M d since (reached N M l before) ≡ false
-    late v x d hd new pin ne = by v (rw (← reaches (before ++ since) short) ne)
+    late : (v : Event) (x d : ℕ) → d < N → S.retired N M x before (started N M l) ≡ S.freed N M x before (started N M l) → Pinned N M d (reached N M l before)
+        → Frees N M v x (reached N M l (before ++ since)) → Changed N M d since (reached N M l before)
+    late v x d hd new pin some-freed = by v (rw (← reaches (before ++ since) short) some-freed)
       where
         t : Tables
         t = at (before ++ since)
@@ -212,28 +222,29 @@ module _ (N M : ℕ) (l : Lent) (ok : startLent N M l .answer ≡ Answer.Done 0 
         c : Clean N M t
         c = clean (before ++ since) short
 
-        by : (v : Event) → times x (frees (S.does N M v (lentOf N M t))) ≢ 0 → S.unchanged N M d since (reached N M l before) ≡ false
-        by (Event.steps p places) ne = early x d hd new pin (On.Event.steps (length places) p) (rw (← carries-step N M (start .limits) t s c small p places .tokens) ne)
-        by Event.registers ne = early x d hd new pin On.Event.registers (rw (← carries-register N M (start .limits) t s c small .tokens) ne)
-        by (Event.calls p q) ne = early x d hd new pin (On.Event.calls p q) (rw (← carries-call N M (start .limits) t s c small p q .tokens) ne)
-        by (Event.surveys reports) ne = absurd (ne (survey-frees N M (lentOf N M t) reports x))
+        by : (v : Event) → Frees N M v x (lentOf N M t) → Changed N M d since (reached N M l before)
+        by (Event.steps p places) f = early x d hd new pin (On.Event.steps (length places) p) (rw (← carries-step N M (start .limits) t s c small p places .tokens) f)
+        by Event.registers f = early x d hd new pin On.Event.registers (rw (← carries-register N M (start .limits) t s c small .tokens) f)
+        by (Event.calls p q) f = early x d hd new pin (On.Event.calls p q) (rw (← carries-call N M (start .limits) t s c small p q .tokens) f)
+        by (Event.surveys reports) f = let z = survey-frees N M (lentOf N M t) reports x in absurd (omega arith)
 
   -- the retirement changes no word, so the change came later
-  not-early-then : (before since : List Event) (p x : ℕ) (v : Event) → let run = before ++ Event.calls p (Call.Defer x) ∷ since in Short N M l run
-      → (d : ℕ) → d < N → isPinned (words N M (reached N M l before) .word d) ≡ true → S.retired N M x before (started N M l) ≡ 0
-      → times x (frees (S.does N M v (reached N M l run))) ≢ 0 → S.unchanged N M d since (S.does N M (Event.calls p (Call.Defer x)) (reached N M l before) .lent) ≡ false
-  not-early-then before since p x v short d hd pin new ne =
+  not-early-then : (before since : List Event) (p x : ℕ) (v : Event) → let retirement = Event.calls p (Call.Defer x) in let run = before ++ retirement ∷ since in
+      Short N M l run → S.retired N M x before (started N M l) ≡ S.freed N M x before (started N M l) → (d : ℕ) → d < N → Pinned N M d (reached N M l before)
+      → Frees N M v x (reached N M l run) → Changed N M d since (S.does N M retirement (reached N M l before) .lent)
+  not-early-then before since p x v short new d hd pin some-freed =
       let b = short-before before (Event.calls p (Call.Defer x) ∷ since) short in
       let still : words N M (S.does N M (Event.calls p (Call.Defer x)) (reached N M l before) .lent) .word d ≡ words N M (reached N M l before) .word d
       = rw (reaches before b) (words-kept N M (start .limits) (at before) (sound before b .0) (clean before b) (sound before b .1) p d (Call.Defer x)) in
-      second _ _ (eq-eqb _ _ still) (unfold S.unchanged in (late before (Event.calls p (Call.Defer x) ∷ since) short v x d hd new pin ne))
+      stood-first _ _ (eq-eqb _ _ still) (unfold S.changes in (late before (Event.calls p (Call.Defer x) ∷ since) short v x d hd new pin some-freed))
 
   all : Reclaims N M l
   all = record {
     balance = balance;
     once = λ run short x e. let b = balance run short x in omega arith;
-    late = not-early-then;
-    whole = whole;
+    notEarly = not-early-then;
+    guarded = guarded;
+    neverDamaged = never-1-on;
     order = order;
   }
 

@@ -1,10 +1,11 @@
--- The balance of every token along every run: accepted retirements are frees and what waits, in participants' bags, behind pushes and in nodes'
--- bags. Balance has it for one move of the machine; here it is carried over to the definition's events and to whole runs. Assumes nothing.
+-- The balance of every token along every run: accepted retirements are frees and what waits. Balance has it for one move of the machine, with the bags
+-- of all nodes; here it is carried over to the definition's events and to whole runs, and Counted says that only the bags that the statement counts
+-- hold anything. Assumes nothing.
 use mathlib.Core.Path.{_≡_, refl, _∙_}
 use mathlib.Core.List.{List, [], _∷_}
 use Prim.Native.Nat.{ℕ, _+_, _^_, _≤_, _<_}
 use native.Mathlib.Omega.{arith}
-use Rattle.definition.specs.Base.{branch}
+use Rattle.definition.specs.Base.{branch, Tab}
 use Rattle.definition.specs.Bags.{items, tokens}
 use Rattle.definition.specs.Flow as Flow
 use Rattle.definition.specs.Tables.{Tables}
@@ -17,7 +18,7 @@ use Rattle.definition.specs.Step.{Out, inBag, freedBy, answerOf, follow, ruleAt
 use Rattle.definition.specs.Public.{the, enrolled}
 use Rattle.definition.proofs.Base.{sum-ext}
 use Rattle.theorems.specs.OnTables.{Event, does, after, advances, accepts, retired, freed}
-use Rattle.theorems.specs.Waiting.{times, waitsAt, waiting, defers, ifAccepted}
+use Rattle.theorems.specs.Waiting.{times, waitsAt, takenNode, poppedNode, inOwn, inNode, carried, waitingWith, waitingQueued, waiting, defers, ifAccepted}
 use Rattle.theorems.proofs.Machine.{view}
 use Rattle.theorems.proofs.Ghost.{Ghost, G}
 use Rattle.theorems.proofs.Invariant.{waitingItem, sameItem, has, occurs, waits}
@@ -28,6 +29,8 @@ use Rattle.theorems.proofs.Balance.{freedItems, tokens-times, acceptedB
 use Rattle.theorems.proofs.Start.{nothing-waits}
 use Rattle.theorems.proofs.Checks.{view-register}
 use Rattle.theorems.proofs.Runs.{Happens, happens, Sound, sound-does, epoch-does, sound-fresh, fresh-epoch}
+use Rattle.theorems.proofs.Popped.{Along, along-run}
+use Rattle.theorems.proofs.Counted.{sum-plus, all-counted}
 use Rattle.theorems.proofs.Types.{Item, Deferring, Then, Place, Work, End, Call, Answer}
 
 -- ---- the words of the statement are those of the proofs
@@ -54,14 +57,21 @@ waits-same x (Place.Push Then.Finalize a) = refl
 waits-same x Place.FinalWord = refl
 waits-same x Place.FinalTag = refl
 
--- all that waits
-pub waiting-is : (N M x : ℕ) (t : Tables) → waiting N M x t ≡ occurs N M (view t) (Item.Token x)
-unfolding waiting occurs has
-waiting-is N M x t = rw (
-  sum-ext N (λ q. times x (tokens (items (t .own q .held) (t .held q))) + waitsAt x (the q t .place)) (λ q. Inv′.times (Item.Token x) (view t .held q) + waits (Item.Token x) (waitingItem (view t .own q .place)))
-      (λ q _. rw (tokens-times x (items (t .own q .held) (t .held q)), waits-same x (the q t .place)) refl),
-  sum-ext M (λ n. times x (tokens (items (t .bag n .len) (t .bag n .deferreds)))) (λ n. Inv′.times (Item.Token x) (view t .bag n .holds)) (λ n _. tokens-times x (items (t .bag n .len) (t .bag n .deferreds))),
-) refl
+-- all that waits: what the statement counts is what occurs, since every bag that holds something is counted once (Counted)
+waiting-is : (N M x : ℕ) (t : Tables) → Along N M t → waiting N M x t ≡ occurs N M (view t) (Item.Token x)
+unfolding waiting waitingWith waitingQueued inOwn occurs has
+waiting-is N M x t k =
+    let pl : Tab Place = λ q. the q t .place in
+    let mine : Tab ℕ = λ q. times x (tokens (items (t .own q .held) (t .held q))) + waitsAt x (pl q) in
+    let taken : Tab ℕ = λ q. carried (inNode x t) (takenNode (pl q)) in
+    let popped : Tab ℕ = λ q. carried (inNode x t) (poppedNode (pl q)) in
+    let a = sum-plus N mine taken in
+    let b = sum-plus N (λ q. mine q + taken q) popped in
+    let c = all-counted N M (view t) (k .ghost) (k .inv) (k .popped) (inNode x t) (λ n e. unfold inNode in (tokens-times x (items (t .bag n .len) (t .bag n .deferreds)) ∙ (rw e (unfold Inv′.times in refl)))) in
+    let d = sum-ext N mine (λ q. Inv′.times (Item.Token x) (view t .held q) + waits (Item.Token x) (waitingItem (view t .own q .place)))
+    (λ q _. rw (tokens-times x (items (t .own q .held) (t .held q)), waits-same x (the q t .place)) refl) in
+    let e = sum-ext M (inNode x t) (λ n. Inv′.times (Item.Token x) (view t .bag n .holds)) (λ n _. unfold inNode in (tokens-times x (items (t .bag n .len) (t .bag n .deferreds)))) in
+    omega arith
 
 -- what a work frees
 freed-view : (w : Work) (t : Tables) → freedBy w t ≡ tokens (freedItems w (view t .bag))
@@ -140,12 +150,19 @@ module _ (N M : ℕ) where
       let b = balance-after x l (does N M v t .tables) (sound-does N M t s (omega arith) v) (omega arith) in
       omega arith
 
-  -- from a fresh start
-  pub balanced : 1 ≤ N → 2 ≤ M → (l : List Event) → advances N M l (fresh N M) < 2 ^ 62 → (x : ℕ)
-      → retired N M x l (fresh N M) ≡ freed N M x l (fresh N M) + waiting N M x (after N M l (fresh N M))
-  balanced hN hM l lt x =
+  -- from a fresh start: what was retired was freed or occurs
+  pub occurring : 1 ≤ N → 2 ≤ M → (l : List Event) → advances N M l (fresh N M) < 2 ^ 62 → (x : ℕ)
+      → retired N M x l (fresh N M) ≡ freed N M x l (fresh N M) + occurs N M (view (after N M l (fresh N M))) (Item.Token x)
+  occurring hN hM l lt x =
       let e = fresh-epoch N M in
       let a = balance-after x l (fresh N M) (sound-fresh N M hN hM) (omega arith) in
       let b = nothing-waits N M hM (Item.Token x) in
-      let c = waiting-is N M x (after N M l (fresh N M)) in
+      omega arith
+
+  -- or waits
+  pub balanced : 1 ≤ N → 2 ≤ M → (l : List Event) → advances N M l (fresh N M) < 2 ^ 62 → (x : ℕ)
+      → retired N M x l (fresh N M) ≡ freed N M x l (fresh N M) + waiting N M x (after N M l (fresh N M))
+  balanced hN hM l lt x =
+      let a = occurring hN hM l lt x in
+      let c = waiting-is N M x (after N M l (fresh N M)) (along-run N M hN hM l lt) in
       omega arith

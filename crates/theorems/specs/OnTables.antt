@@ -1,19 +1,19 @@
--- The same on the definition's tables, for any number of participants, and any number of nodes from 2 on: runs of `step`, `register` and `call`, and
+-- The same on the definition's tables, for any number of participants from 1 on, and any number of nodes from 2 on: runs of `step`, `register` and `call`, and
 -- what is true of every run from a fresh start. What specs/Statement says of lent lists is proved from this; a survey is no event here, and a step
 -- has a number of places for freed tokens in place of a list. Assumes nothing.
 use mathlib.Core.Path.{_≡_}
 use mathlib.Core.Logic.{_≢_}
-use mathlib.Core.Bool.{Bool, true, false, _&&_}
+use mathlib.Core.Bool.{true, false}
 use mathlib.Core.List.{List, [], _∷_, _++_}
 use Prim.Native.Nat.{ℕ, _+_, _^_, _≤_, _<_}
-use lib.Dec.{eqb}
+use lib.Dec.{eqb, leb}
 use Rattle.epoch.specs.Epoch.{isPinned}
 use Rattle.definition.specs.Base.{branch}
-use Rattle.definition.specs.Links.{index}
+use Rattle.definition.specs.Links.{isTagged, index}
 use Rattle.definition.specs.Tables.{Tables}
 use Rattle.definition.specs.Ranges.{fresh}
 use Rattle.definition.specs.Step.{Out}
-use Rattle.definition.specs.Public.{call, register, step}
+use Rattle.definition.specs.Public.{running, call, register, step}
 use Rattle.definition.specs.declared.Call.{Call}
 use Rattle.definition.specs.declared.Answer.{Answer}
 use Rattle.theorems.specs.Order.{linked, left, Bagged, bags, Hangs}
@@ -57,10 +57,10 @@ module _ (N M : ℕ) where
   freed x [] t = 0
   freed x (v ∷ l) t = times x (does v t .freed) + freed x l (does v t .tables)
 
-  -- whether the word of participant d stood still
-  unfoldable pub unchanged : ℕ → List Event → Tables → Bool
-  unchanged d [] t = true
-  unchanged d (v ∷ l) t = eqb (does v t .tables .shared .word d) (t .shared .word d) && unchanged d l (does v t .tables)
+  -- how often the word of participant d changed
+  unfoldable pub changes : ℕ → List Event → Tables → ℕ
+  changes d [] t = 0
+  changes d (v ∷ l) t = branch (eqb (does v t .tables .shared .word d) (t .shared .word d)) 0 1 + changes d l (does v t .tables)
 
   -- the bags that were linked, and those that left the queue, in order, each as it was then
   unfoldable pub links : List Event → Tables → List Bagged
@@ -90,12 +90,14 @@ module _ (N M : ℕ) where
     pub balance : (l : List Event) → Short l → (x : ℕ) → retired x l (fresh N M) ≡ freed x l (fresh N M) + waiting N M x (reached l)
     -- so a token that was retired once is freed at most once
     pub once : (l : List Event) → Short l → (x : ℕ) → retired x l (fresh N M) ≡ 1 → freed x l (fresh N M) ≤ 1
-    -- no early free: after the events `before`, which end just before a token's first retirement, participant d is pinned; then come the events
-    -- `since`, that retirement the first of them; and event v frees the token. Then d's word changed in the course of `since`
-    pub late : (before since : List Event) (v : Event) → Short (before ++ since) → (x d : ℕ) → d < N → retired x before (fresh N M) ≡ 0
-        → isPinned (reached before .shared .word d) ≡ true → times x (does v (reached (before ++ since)) .freed) ≢ 0
-        → unchanged d since (reached before) ≡ false
+    -- no early free: after the events `before`, in which the token was freed as often as it was retired, participant d is pinned; then come the
+    -- events `since`; and event v frees the token. Then d's word changed in the course of `since`
+    pub notEarly : (before since : List Event) (v : Event) → Short (before ++ since) → (x d : ℕ) → d < N → retired x before (fresh N M) ≡ freed x before (fresh N M)
+        → isPinned (reached before .shared .word d) ≡ true → 1 ≤ times x (does v (reached (before ++ since)) .freed) → 1 ≤ changes d since (reached before)
+    -- at rest a word is pinned exactly if there is a guard
+    pub guarded : (l : List Event) → Short l → (d : ℕ) → d < N → let t = reached l in
+        t .slotFree d ≡ false → isTagged (t .shared .entryNext d) ≡ false → running d t ≡ false → isPinned (t .shared .word d) ≡ leb 1 (t .own d .counts .guards)
     -- refusal 1 never occurs
-    pub whole : (l : List Event) → Short l → (v : Event) → does v (reached l) .answer ≢ Answer.Refused 1
+    pub neverDamaged : (l : List Event) → Short l → (v : Event) → does v (reached l) .answer ≢ Answer.Refused 1
     -- bags leave the queue in the order in which they were linked, as they were linked
     pub order : (l : List Event) → Short l → InOrder l (fresh N M)

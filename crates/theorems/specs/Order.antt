@@ -41,3 +41,8 @@ bags t (n ∷ l) = record { node = n; seal = t .bag n .epoch; holds = items (t .
 unfoldable pub Hangs : Tab ℕ → ℕ → List ℕ → Type 0
 Hangs next n [] = isNull (next n) ≡ true
 Hangs next n (k ∷ l) = (next n ≡ link k) × Hangs next k l
+
+-- these nodes, one by one, `fuel` at most. (In M nodes fuel M is enough: `hangs-hanging` of proofs/Counted)
+unfoldable pub hanging : (fuel : ℕ) → Tab ℕ → ℕ → List ℕ
+hanging zero next n = []
+hanging (suc fuel) next n = branch (isNull (next n)) [] (index (next n) ∷ hanging fuel next (index (next n)))

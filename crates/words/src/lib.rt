@@ -1,4 +1,5 @@
-// The shared words: the one place where they are read and written. A step makes one access, and makes it here, by `perform`.
+// The shared words, and the accesses to them. A step makes one access, and makes it here, by `perform`. What touches a shared word elsewhere is
+// no access: a fresh start, the private stores of a registering (by `write_word`) and of a bag sealed into a node, the checks and the survey.
 //
 // The Rust's atomics are words of three lent lists: the global epoch, the head of the list of participants and both ends of the queue
 // in `globals`; a participant's epoch and its entry's next in its row of `participants`; a node's next in its row of `nodes`.

@@ -39,14 +39,14 @@ needs-requires c κs = rw (c .before .before .before .before .before .load .ensu
 free-nodes-requires : tie.Need-free-nodes-requires
 free-nodes-requires c κs = search needs
 
-room-requires : tie.Need-room-requires
-room-requires c κs = search needs
+no-node-requires : tie.Need-no-node-requires
+no-node-requires c κs = search needs
 
 call-refusal-requires-2 : tie.Need-call-refusal-requires-2
 call-refusal-requires-2 c κs = search needs
 
 returns-2 : tie.Need-returns-2
-returns-2 c = λ n h q. call-in _ _ _ _ _ _ _ _ (c .before .before .before .before .before .before .before .before .before .before .before .if1 .left) (c .before .before .before .before .before .before .before .before .before .load .ensures) (c .before .before .before .before .before .before .before .before .is-rest .ensures) (c .before .before .before .before .before .before .before .gone .ensures) (c .before .before .free-nodes .ensures) _ _ _ _ _ _ _ (c .before .before .before .before .before .before .lacks .ensures) (c .before .before .before .before .before .count-full .ensures) (c .before .before .before .before .token-above .ensures) (c .before .before .before .needs .ensures) (c .before .room .ensures) (c .call-refusal2 .ensures)
+returns-2 c = λ n h q. call-in _ _ _ _ _ _ _ _ (c .before .before .before .before .before .before .before .before .before .before .before .if1 .left) (c .before .before .before .before .before .before .before .before .before .load .ensures) (c .before .before .before .before .before .before .before .before .is-rest .ensures) (c .before .before .before .before .before .before .before .gone .ensures) (c .before .before .free-nodes .ensures) _ _ _ _ _ _ _ (c .before .before .before .before .before .before .lacks .ensures) (c .before .before .before .before .before .count-full .ensures) (c .before .before .before .before .token-above .ensures) (c .before .before .before .needs .ensures) (c .before .no-node .ensures) (c .call-refusal2 .ensures)
 
 pub call-at-spec : {M : Type 1} → statement M
 call-at-spec =
@@ -63,6 +63,6 @@ call-at-spec =
     token-above-requires
     needs-requires
     free-nodes-requires
-    room-requires
+    no-node-requires
     call-refusal-requires-2
     returns-2)
