@@ -1,9 +1,9 @@
 -- The cases that document 01 works by hand and marks [P], as one table: the seven distances, the runs, and the schedule program's whole
 -- case, each with what it must give. The runs are with 1 participant and 2 nodes, the fewest, and those of the first pin, of the flush that
 -- frees and of register, release, pin also with 32 and 128, the most. Of a run is shown what its last operation did, and where that left
--- participant 0's word and bag, the global word, and every bag in the queue, with its seal and its items. Last, three cases of document 01's
--- table of refusals: 11 where more is set aside than is free. proofs/Worked shows by computation that the definition gives it all.
--- Assumes nothing.
+-- participant 0's word and bag, the global word, and every bag in the queue, with its seal and its items. Last, from document 01's table of
+-- refusals, 11: given where more is set aside than is free, not given where just as much is. proofs/Worked shows by computation that the
+-- definition gives it all. Assumes nothing.
 use mathlib.Core.List.{List, [], _∷_, _++_, map}
 use Prim.Native.Nat.{ℕ, zero, suc, _+_}
 use lib.IntN.{ℤ}

@@ -1,6 +1,7 @@
--- No early free. Take a point of a run at which a token was freed as often as it was retired, so that it waits nowhere, and a participant that is pinned there; let r be the global epoch then. The
--- pin is of r at most. From then on every bag that holds the token was sealed at r or later, and a bag is freed two epochs after its seal: but the
--- global epoch is at most one ahead of any pin. So if the token is freed, the participant's word has changed since. Assumes nothing.
+-- No early free. Take a point of a run at which a token was freed as often as it was retired, so that it waits nowhere, and a participant that is
+-- pinned there; let r be the global epoch then. The pin is of r at most. From then on every bag that holds the token was sealed at r or later, and a bag
+-- is freed two epochs after its seal: but the global epoch is at most one ahead of any pin. So if the token is freed, the participant's word has
+-- changed since. Assumes nothing.
 use mathlib.Core.Path.{_≡_, refl, ap, sym, _∙_}
 use mathlib.Core.Logic.{_≢_}
 use mathlib.Core.Bool.{Bool, true, false}

@@ -1,6 +1,6 @@
 -- Demand 3: the reclaimer reclaims. The statement is specs/Statement, on lent lists (`reclaims`), from the same on tables (`reclaims-on-tables`):
--- there the balance is Tokens, no early free is Late, guards and words are Guarded, the order of bags is Leaving, refusal 1 is Checks, and that the invariant holds along
--- every run is Runs. That a run on lists is a run on tables is Lent. Assumes nothing.
+-- there the balance is Tokens, no early free is Late, guards and words are Guarded, the order of bags is Leaving, refusal 1 is Checks, and that
+-- the invariant holds along every run is Runs. That a run on lists is a run on tables is Lent. Assumes nothing.
 use mathlib.Core.Path.{_≡_, refl, ap, sym, _∙_}
 use mathlib.Core.Logic.{_≢_}
 use mathlib.Core.Bool.{Bool, true, false, _&&_}

@@ -1,5 +1,5 @@
--- A run in the words of the statement, in which a token is freed: document 01's, "after the first pin: defer 7, flush; unpin, pin, flush; repin; flush".
--- One participant and two nodes; the lists lent to `start` hold fives. The numbers that the statement speaks of, before the step that frees 7 and
+-- A run in the words of the statement, in which a token is freed: document 01's, where after the first pin come defer 7, flush, unpin, pin, flush, repin
+-- and the flush that frees. One participant and two nodes; the lists lent to `start` hold fives. The numbers that the statement speaks of, before the step that frees 7 and
 -- after it; proofs/Example shows that they are these. Assumes nothing.
 use mathlib.Core.Bool.{Bool, true}
 use mathlib.Core.List.{List, [], _∷_, _++_}

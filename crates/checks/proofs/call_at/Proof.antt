@@ -46,7 +46,19 @@ call-refusal-requires-2 : tie.Need-call-refusal-requires-2
 call-refusal-requires-2 c κs = search needs
 
 returns-2 : tie.Need-returns-2
-returns-2 c = λ n h q. call-in _ _ _ _ _ _ _ _ (c .before .before .before .before .before .before .before .before .before .before .before .if1 .left) (c .before .before .before .before .before .before .before .before .before .load .ensures) (c .before .before .before .before .before .before .before .before .is-rest .ensures) (c .before .before .before .before .before .before .before .gone .ensures) (c .before .before .free-nodes .ensures) _ _ _ _ _ _ _ (c .before .before .before .before .before .before .lacks .ensures) (c .before .before .before .before .before .count-full .ensures) (c .before .before .before .before .token-above .ensures) (c .before .before .before .needs .ensures) (c .before .no-node .ensures) (c .call-refusal2 .ensures)
+returns-2 c = λ n h q.
+    let short = c .before in
+    let free = short .before in
+    let need = free .before in
+    let above = need .before in
+    let full = above .before in
+    let lack = full .before in
+    let gone = lack .before in
+    let rest = gone .before in
+    let row = rest .before in
+    let below = row .before .before in
+    call-in _ _ _ _ _ _ _ _ (below .if1 .left) (row .load .ensures) (rest .is-rest .ensures) (gone .gone .ensures) (free .free-nodes .ensures) _ _ _ _ _ _ _
+    (lack .lacks .ensures) (full .count-full .ensures) (above .token-above .ensures) (need .needs .ensures) (short .no-node .ensures) (c .call-refusal2 .ensures)
 
 pub call-at-spec : {M : Type 1} → statement M
 call-at-spec =
