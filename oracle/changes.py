@@ -75,6 +75,12 @@ CHANGES = [
         ("specs/Queue", "(λ w. on (Place.Pop p PopAt.Head) o)\n", "(λ w. on (Place.Pop p (PopAt.Tail head next)) o)\n")]),
     Change("head-at-exchange", "the old head is retired, and the bag freed, at the exchange", ("order",), [
         ("specs/Queue", "(on (Place.Pop p (PopAt.Tail head next)) o)", "(defer (Deferring.Node p head next) o)")]),
+    # ---- marked steps
+    Change("marked-stores", "a link that fails for no reason stores all the same", ("neverDamaged",), [
+        ("specs/Step", "(follow p (follows r (missed (sees (asks r) (t .shared)))) t) (takeStep M p t)",
+         "(follow p (follows r (missed (sees (asks r) (t .shared)))) (withShared (leaves (asks r) (t .shared)) t)) (takeStep M p t)")]),
+    Change("marked-links", "a registering whose link fails for no reason is done as if it were linked", ("notEarly",), [
+        ("specs/Step", "(follow p (follows r (missed (sees (asks r) (t .shared)))) t)", "(follow p (follows r (sees (asks r) (t .shared))) t)")]),
     # ---- nodes set aside
     Change("finalize-no-node", "a finalize sets no node aside for its own push", ("neverDamaged",), [
         ("specs/Calls", "branch (finalizes Call.Release o) (1 + pinNeeds N o) 0", "branch (finalizes Call.Release o) (pinNeeds N o) 0")]),

@@ -4,8 +4,9 @@
     oracle/clauses.py [NAME..] [--seed S] [--records K]     K records of each change, and twenty times as many of the model without a change
 
 Each run is from a fresh start, with few participants and nodes: first some that are made, then random ones, in which participants fall asleep, mostly in
-the middle of an operation. After every record each clause of crates/theorems/specs/Statement is looked at, in its own words. A line says which
-clauses were seen broken, and after how many records in the shortest run that broke them. All of it takes about two minutes.
+the middle of an operation; and then half as many records again, of runs in which some steps are marked. After every record each clause of
+crates/theorems/specs/Statement is looked at, in its own words. A line says which clauses were seen broken, and after how many records in the shortest run
+that broke them. All of it takes about four minutes.
 
 Exit status: 0 the model without a change breaks no clause, and each change those that changes.py says, and none where it says none; 1 not so.
 """
@@ -17,7 +18,7 @@ from itertools import islice
 
 import model
 from changes import CHANGES, CLAUSES
-from model import ACQUIRE, DEFER, FLUSH, PIN, REGISTER, RELEASE, REPIN, STEP, UNPIN, REFUSED
+from model import ACQUIRE, DEFER, FLUSH, MARKED, PIN, REGISTER, RELEASE, REPIN, STEP, UNPIN, REFUSED
 from model import CURR, EPOCH, GUARDS, HANDLES, HELD, LEFT, NEW, NEXT, OLD, ONTO, OWNER, PLACE, POPPED, PRED, SHARE, SUCC, THEN, TOKEN, WD
 
 
@@ -158,6 +159,12 @@ class Chooser:
         return rng.choices(list(calls), list(calls.values()))[0], i, self.token()
 
 
+def marking(records, rng):
+    """the same records, but some of the steps are marked: few of them, or half, or most"""
+    share = rng.choice((0.1, 0.5, 0.8))
+    return ((MARKED, i, token) if action == STEP and rng.random() < share else (action, i, token) for action, i, token in records)
+
+
 # Runs that chance hardly finds, of so many participants and nodes. `finish I`: steps of I to the end of its operation; `to I PLACE`: until it stands
 # there (docs/RANGES.md has the numbers); else a record
 ONE, TWO = "register; finish 0;", "register; finish 0; register; finish 1;"
@@ -188,7 +195,15 @@ MADE = [
     # the 129th pin collects, with a full bag, and pops another
     (1, 6, f"{ONE} pin 0; finish 0; repin 0; finish 0; defer 0 7; flush 0; finish 0;{64 * ' defer 0 8;'}{128 * ' unpin 0; finish 0; pin 0; finish 0;'}"),
 ]
-ACTIONS = {"step": STEP, "register": REGISTER, "release": RELEASE, "pin": PIN, "unpin": UNPIN, "repin": REPIN, "defer": DEFER, "flush": FLUSH}
+# the same, with marked steps: `marked I`
+MADE_MARKED = [
+    # 1 registers, and its first link is marked; it is pinned when 0 retires 7 and advances
+    (2, 6, f"{ONE} register; step 1; step 1; marked 1; finish 1; pin 1; finish 1; pin 0; finish 0; defer 0 7;{4 * ' repin 0; finish 0; flush 0; finish 0;'}"),
+    # the same registering while 0 is about to store the next epoch; 1 meets its own word pinned in the epoch before, goes, and 0 walks
+    (2, 6, f"{ONE} pin 0; finish 0; repin 0; finish 0; flush 0; to 0 16; register; step 1; step 1; marked 1; finish 1; pin 1; step 1; step 1; finish 0; finish 1;"
+           f" unpin 1; finish 1; release 1; finish 1; repin 0; finish 0; flush 0;{4 * ' finish 0;'}"),
+]
+ACTIONS = {"step": STEP, "marked": MARKED, "register": REGISTER, "release": RELEASE, "pin": PIN, "unpin": UNPIN, "repin": REPIN, "defer": DEFER, "flush": FLUSH}
 
 
 def records_of(text, t):
@@ -231,13 +246,17 @@ def carried(o, *columns):
 
 
 def at(place, f):
-    return {"step": lambda run, spare: f(run, run.port, run.o, lambda: Run.step(run, spare)) if run.o[PLACE] == place else Run.step(run, spare)}
+    def step(run, spare, marked):
+        def as_ever():
+            return Run.step(run, spare, marked)
+        return f(run, run.port, run.o, as_ever) if run.o[PLACE] == place else as_ever()
+    return {"step": step}
 
 
 def after(place, f):
-    def step(run, spare):
+    def step(run, spare, marked):
         was = list(run.o)
-        answer = Run.step(run, spare)
+        answer = Run.step(run, spare, marked)
         if was[PLACE] == place:
             f(run, run.port, was, spare)
         return answer
@@ -331,6 +350,19 @@ def head_at_exchange(run, t, o, as_ever):
     return run.defer(2, carried(o, *POP))
 
 
+def failing(f):
+    """a marked step at the link of a registering, where the value agrees"""
+    def step(run, spare, marked):
+        fails = marked and run.o[PLACE] == 3 and run.port.g[1] == run.o[SUCC]
+        return f(run, run.port, run.o[SUCC]) if fails else Run.step(run, spare, marked)
+    return {"step": step}
+
+
+def marked_stores(run, t, succ):
+    t.g[1] = 2 * run.i + 2
+    return run.on(2, SUCC=succ)
+
+
 def aside_kept(run, kind, value=0):
     total = run.port.g[4]
     answer = Run.answer(run, kind, value)
@@ -371,6 +403,8 @@ CHANGED = {
     "link-by-store": at(26, link_by_store),
     "lost-exchange": at(19, lost_exchange),
     "head-at-exchange": at(19, head_at_exchange),
+    "marked-stores": failing(marked_stores),
+    "marked-links": failing(lambda run, t, succ: run.done(run.i)),
     "finalize-no-node": FinalizeNoNode,
     "pin-too-few": PinTooFew,
     "aside-kept": {"answer": aside_kept},
@@ -386,14 +420,16 @@ def tried(how, seed, records):
     def fresh(n, m):
         return make(n, m, [[0] * k for k in model.lengths(n, m)])
 
-    for n, m, text in MADE:
-        t = fresh(n, m)
-        played, runs = played + watch(t, records_of(text, t), first), runs + 1
-    while played < records:
-        rng = random.Random(f"{seed} {runs}")
-        t = fresh(rng.choice((1, 2, 2, 2, 3, 3, 4)), rng.choice((3, 4, 6, 8)))
-        most = min(records - played, rng.choice((150, 400, 1500)))
-        played, runs = played + watch(t, islice(Chooser(t, rng), most), first), runs + 1
+    for marked, made, until in ((False, MADE, records), (True, MADE_MARKED, records + records // 2)):
+        for n, m, text in made:
+            t = fresh(n, m)
+            played, runs = played + watch(t, records_of(text, t), first), runs + 1
+        while played < until:
+            rng = random.Random(f"{seed} {runs}")
+            t = fresh(rng.choice((1, 2, 2, 2, 3, 3, 4)), rng.choice((3, 4, 6, 8)))
+            most = min(until - played, rng.choice((150, 400, 1500)))
+            chosen = Chooser(t, rng)
+            played, runs = played + watch(t, islice(marking(chosen, rng) if marked else chosen, most), first), runs + 1
     model.Run = Run
     return runs, played, first
 

@@ -25,7 +25,7 @@ SLOT, NODE, STRIDE, ITEMS = 16, 4112, 128, 8
 # What the definition shows of a run, in the numbers of the recorded answers. A free slot or node shows its free bit alone.
 SHOWS = """
 data Ev : Type 0 where
-  st : ℕ → Ev
+  st : Bool → ℕ → Ev
   rg : Ev
   cl : ℕ → Call → Ev
   look : Ev
@@ -57,7 +57,7 @@ state t = t .shared .globalEpoch ∷ t .shared .listHead ∷ t .shared .queueHea
 
 go : List Ev → Tables.Tables → List (List ℕ)
 go [] t = []
-go (st p ∷ l) t = let o : Step.Out = Step.takeStep 128 p t in coded (o .answer) (o .freed) (five (Step.accessAt 128 p t)) ∷ go l (o .tables)
+go (st m p ∷ l) t = let o : Step.Out = Step.takeMarked m 128 p t in coded (o .answer) (o .freed) (five (Step.accessAt m 128 p t)) ∷ go l (o .tables)
 go (rg ∷ l) t = let o : Step.Out = Public.enrolled (Base.least 32 (t .slotFree)) t in coded (o .answer) (o .freed) nowhere ∷ go l (o .tables)
 go (cl p c ∷ l) t = let o : Step.Out = Step.follow p (Calls.opens 32 c (Public.the p t)) t in coded (o .answer) (o .freed) nowhere ∷ go l (o .tables)
 go (look ∷ l) t = state t ∷ go l t
@@ -107,8 +107,8 @@ def spelled(numbers):
 
 
 def event(action, participant, token):
-    if action == 0:
-        return f"st {participant}"
+    if action in (0, 9):
+        return f"st {'true' if action == 9 else 'false'} {participant}"
     if action == 1:
         return "rg"
     return f"cl {participant} " + (f"(Call.Defer {token})" if action == 7 else f"Call.{CALLS[action]}")
@@ -127,6 +127,7 @@ def statement(number, records, every, totals, unfold):
         changed(cells, rest[6:])
         totals["records"] += 1
         totals["accesses"] += rest[0] != 0
+        totals["marked"] += action == 9
         if len(events) % every == 0 or record is records[-1]:
             words = state(cells)
             events.append("look")
@@ -165,9 +166,9 @@ def main():
     options.add_argument("file", nargs="?", default=str(HERE / "recorded/answers.txt"))
     options.add_argument("--every", type=int, default=100)
     given = options.parse_args()
-    totals, unfold = {"records": 0, "accesses": 0, "words": 0}, unfolded()
+    totals, unfold = {"records": 0, "accesses": 0, "marked": 0, "words": 0}, unfolded()
     found = schedules(open(given.file).read().split("\n"))
-    uses = ["mathlib.Core.Path.{_≡_, refl}", "mathlib.Core.List.{List, [], _∷_, _++_}", "Prim.Native.Nat.{ℕ, zero, suc}",
+    uses = ["mathlib.Core.Path.{_≡_, refl}", "mathlib.Core.Bool.{Bool, true, false}", "mathlib.Core.List.{List, [], _∷_, _++_}", "Prim.Native.Nat.{ℕ, zero, suc}",
             "Rattle.definition.specs.Types.{Call, Answer, Access}", "Rattle.epoch.specs.Epoch"]
     uses += [f"Rattle.definition.specs.{module}" for module in MODULES]
     body = [statement(k, records, given.every, totals, unfold) for k, (_, records) in enumerate(found)]
@@ -177,7 +178,7 @@ def main():
         print(f"schedule {k}: the definition differs: {found[k][0]}")
     if ran.returncode != 0 and not wrong:
         print(ran.stdout[-3000:], ran.stderr[-3000:])
-    print(f"{len(found)} schedules, {totals['records']} records, {totals['accesses']} accesses, {totals['words']} state words:",
+    print(f"{len(found)} schedules, {totals['records']} records, {totals['accesses']} accesses, {totals['marked']} of them in marked steps, {totals['words']} state words:",
           "the definition gives them all" if ran.returncode == 0 else "NOT the same")
     return 0 if ran.returncode == 0 else 1
 

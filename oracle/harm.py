@@ -5,13 +5,13 @@
     oracle stream --n 2 --m 6 | ./harm.py --check --n 2 --m 6 --distance 2   the model below beside answers of the Rust
 
 The model is the definition (crates/definition) for few participants and short runs: bags never fill. Early means: a participant that was pinned just
-before the retirement has had the same word ever since. Left out: what makes no schedule shorter, that is refused records, a second retirement
-of the token, and another token where the bag holds something already; and a fourth guard or handle of a participant.
+before the retirement has had the same word ever since. Left out: what makes no schedule shorter, that is refused records, marked steps (`--check` knows
+them), a second retirement of the token, and another token where the bag holds something already; and a fourth guard or handle of a participant.
 """
 import argparse
 import sys
 
-REGISTER, ACQUIRE, RELEASE, PIN, UNPIN, REPIN, DEFER, FLUSH, STEP = 1, 2, 3, 4, 5, 6, 7, 8, 0
+REGISTER, ACQUIRE, RELEASE, PIN, UNPIN, REPIN, DEFER, FLUSH, MARKED, STEP = 1, 2, 3, 4, 5, 6, 7, 8, 9, 0
 NAMES = "step register acquire release pin unpin repin defer flush".split()
 MINE, OTHER = 7, 8
 REST = ("rest",)
@@ -100,8 +100,11 @@ class World:
 
     # ---- the access of each place: specs/List, Queue, Internal
 
-    def step(self, p):
+    def step(self, p, marked=False):
         at, *a = self.place[p]
+        if marked and at == "register-link":
+            self.on(p, "register-next", bare(self.glob[1]))
+            return
         rules = {"register": self.insert, "walk": self.iterate, "pop": self.pop, "push": self.push}
         rules.get(at.split("-")[0], self.local)(p, at, a)
 
@@ -246,10 +249,10 @@ class World:
             return 0
         if p >= self.n or self.free[p] or (self.next[p] & 1 and self.place[p] == REST):
             return 3
-        if action == STEP:
+        if action in (STEP, MARKED):
             if self.place[p] == REST:
                 return 5
-            self.step(p)
+            self.step(p, action == MARKED)
             return 0
         return 4 if self.place[p] != REST else self.call(action, p, token)
 

@@ -26,11 +26,11 @@ def mixed(total, words):
 
 
 def tried(turn):
-    """Action and participant: mostly steps; one of a participant that there is not."""
+    """Action and participant: mostly steps, every other one marked; one of a participant that there is not."""
     p, k = turn // 19 % 3, turn % 19
     if k == 18:
-        return model.STEP, 3
-    return (model.STEP, p) if k < 10 else (k - 9, p)
+        return model.MARKED, 3
+    return (model.MARKED if k % 2 else model.STEP, p) if k < 10 else (k - 9, p)
 
 
 def value(w, turn):
@@ -62,7 +62,7 @@ def main():
     for k in range(len(data) // 8):
         r = data[8 * k:8 * k + 8]
         port = model.Port(N, M, split(kept))
-        if r[0] > 8:
+        if not model.whole(r):
             port.start()
         else:
             port.act(r[0], r[1], int.from_bytes(r[4:8], "little"))

@@ -1,10 +1,10 @@
-"""A second implementation of the port, in Python, on the same five lists of words: the public calls with every refusal, from document 01 and
+"""A second implementation of the port, in Python, on the same five lists of words: the public calls with every refusal, from documents 01 and 02 and
 docs/RANGES.md. It shares nothing with the proved code and nothing with the Rust, and can be asked what the code must do with damaged lists,
 which the Rust cannot. `check.py` holds it to the recorded answers; `hurt.py`, `limits.py` and `report.py` write with it what programs must write."""
 
 WORD = 1 << 64
 MORE, DONE, REFUSED = 0, 1, 2
-STEP, REGISTER, ACQUIRE, RELEASE, PIN, UNPIN, REPIN, DEFER, FLUSH = range(9)
+STEP, REGISTER, ACQUIRE, RELEASE, PIN, UNPIN, REPIN, DEFER, FLUSH, MARKED = range(10)
 # columns of a participant's row
 WD, NEXT, GUARDS, HANDLES, PINS, HELD, SHARE, PLACE, THEN, OWNER, EPOCH, LEFT, PRED, CURR, SUCC, OLD, POPPED, NEW, ONTO, NXT, TOKEN = range(21)
 # what each place carries, beside what a push goes on with
@@ -18,6 +18,11 @@ GOES_ON = {0: (TOKEN,), 1: (OWNER, EPOCH, PRED, CURR, SUCC), 2: (OWNER, EPOCH, L
 
 def words(n):
     return (n + 63) // 64
+
+
+def whole(r):
+    """Whether a record of the schedule program is one: document 01's actions 0 to 8, and 9, a marked step (document 02, No. 2). 13 where it is not."""
+    return len(r) == 8 and r[0] <= MARKED and r[2] == r[3] == 0 and (r[0] == DEFER or not any(r[4:])) and (r[0] != REGISTER or r[1] == 0)
 
 
 def lengths(n, m):
@@ -176,7 +181,7 @@ class Port:
         run.o[SHARE] = need
         return run.begin(action, token)
 
-    def step(self, i, places):
+    def step(self, i, places, marked=False):
         if not self.sized():
             return REFUSED, 2, []
         if not self.in_range():
@@ -191,7 +196,7 @@ class Port:
         free = self.nodes_free()
         if o[PLACE] == 22 and (not free or o[SHARE] == 0):
             return REFUSED, 1, []
-        return Run(self, i, o).step(free[0] if free else self.m)
+        return Run(self, i, o).step(free[0] if free else self.m, marked)
 
     def report(self, i):
         """State, guards, handles, items held, distance of the global epoch from the word (epoch.rs, `wrapping_sub`)."""
@@ -211,8 +216,8 @@ class Port:
         return DONE, 0, [self.report(i) for i in range(self.n)]
 
     def act(self, action, i, token, places=64):
-        if action == STEP:
-            return self.step(i, places)
+        if action in (STEP, MARKED):
+            return self.step(i, places, action == MARKED)
         if action == REGISTER:
             return self.register()
         return self.call(i, action, token)
@@ -318,7 +323,7 @@ class Run:
             return self.defer(0, {"TOKEN": token})
         return self.on(22, THEN=3) if o[HELD] >= 1 else self.on(10, OWNER=1)
 
-    def step(self, spare):
+    def step(self, spare, marked=False):
         t, o, me = self.port, self.o, 21 * self.i
         g, p, d, place = t.g, t.p, t.d, o[PLACE]
         owner, epoch, left, pred, curr, succ = o[OWNER], o[EPOCH], o[LEFT], o[PRED], o[CURR], o[SUCC]
@@ -329,7 +334,8 @@ class Run:
             p[me + NEXT] = succ
             return self.on(3, SUCC=succ)
         if place == 3:
-            if g[1] == succ:
+            # `compare_exchange_weak`, the only one: in a marked step it fails although the value agrees
+            if g[1] == succ and not marked:
                 g[1] = 2 * self.i + 2
                 return self.done(self.i)
             return self.on(2, SUCC=g[1])

@@ -9,17 +9,13 @@ import model
 N, M = 32, 128
 
 
-def whole(r):
-    return len(r) == 8 and r[0] <= 8 and r[2] == r[3] == 0 and (r[0] == model.DEFER or not any(r[4:])) and (r[0] != model.REGISTER or r[1] == 0)
-
-
 def main():
     data = sys.stdin.buffer.read()
     port = model.Port(N, M, [[0] * k for k in model.lengths(N, M)])
     port.start()
     for at in range(0, len(data), 8):
         r = data[at:at + 8]
-        if whole(r):
+        if model.whole(r):
             port.act(r[0], r[1], int.from_bytes(r[4:], "little"))
     kind, number, reports = port.survey(N)
     if kind == model.REFUSED:

@@ -2,7 +2,7 @@
 
 use crate::generate::{generate, Profile, Wish};
 use crate::judge::{Answer, Judge};
-use crate::record::{Record, STEP};
+use crate::record::Record;
 
 const SHORT: usize = 3000;
 
@@ -15,7 +15,7 @@ fn stepped(records: &[Record]) -> Operations {
     let mut operations: Operations = Vec::new();
     for record in records {
         let outcome = judge.play(*record);
-        if record.action != STEP {
+        if !record.steps() {
             operations.push((*record, outcome.answer, outcome.freed));
         } else if let Some((_, answer, freed)) = operations.last_mut() {
             *answer = outcome.answer;
@@ -28,7 +28,7 @@ fn stepped(records: &[Record]) -> Operations {
 
 fn whole(records: &[Record]) -> Operations {
     let mut judge = Judge::start(32, 128, true);
-    let calls = records.iter().filter(|record| record.action != STEP);
+    let calls = records.iter().filter(|record| !record.steps());
     calls.map(|record| (judge.play(*record), record)).map(|(outcome, record)| (*record, outcome.answer, outcome.freed)).collect()
 }
 

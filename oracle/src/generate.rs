@@ -1,6 +1,7 @@
 //! Makes schedules without refusals. The crate itself is driven while they are made, so what is allowed is always known.
 
 use crate::arena::{ARENA, SLOTS};
+use crate::marks::Marks;
 use crate::record::*;
 use crate::run::Run;
 use crate::world::{self, MAX_OBJECTS};
@@ -118,11 +119,13 @@ pub(crate) struct Wish {
     pub(crate) m: usize,
     /// Chance of 1000 that a record is made without asking whether it is refused.
     pub(crate) wild: usize,
+    /// Chance of 1000 that a step is marked; unless it is 0, the first link of each registering is.
+    pub(crate) marked: usize,
 }
 
 impl Wish {
     pub(crate) fn new(seed: u64, profile: Profile, records: usize) -> Wish {
-        Wish { seed, profile, records, n: 32, m: 128, wild: 0 }
+        Wish { seed, profile, records, n: 32, m: 128, wild: 0, marked: 0 }
     }
 }
 
@@ -131,13 +134,14 @@ fn maker(wish: Wish) -> Maker {
     let mut taste = wish.profile.taste();
     // Some runs are of few participants, some of the profile's full number.
     taste.participants = 2 + rng.below(taste.participants - 1);
-    let run = Run::start(wish.n, wish.m);
+    let mut run = Run::start(wish.n, wish.m);
+    run.marks = Marks::new(wish.marked, wish.seed);
     Maker { run, rng, taste, wild: wish.wild, limit: wish.records, last: 0, stands: [0; SLOTS] }
 }
 
 /// One round of the profile `nearly-full`, the shortest run that shows a push inside a walk or a pop.
-pub(crate) fn nearly_full_round(seed: u64) -> Run {
-    let mut maker = maker(Wish::new(seed, Profile::NearlyFull, 0));
+pub(crate) fn nearly_full_round(seed: u64, marked: usize) -> Run {
+    let mut maker = maker(Wish { marked, ..Wish::new(seed, Profile::NearlyFull, 0) });
     maker.round();
     maker.run
 }
@@ -181,7 +185,8 @@ impl Maker {
 
     /// Any record, mostly a refused one.
     fn wild_record(&mut self) {
-        let action = self.rng.below(10) as u8;
+        let drawn = self.rng.below(10) as u8;
+        let action = self.run.marks.wild_action(drawn);
         let slot = if action == REGISTER { 0 } else { self.rng.below(self.taste.participants + 2) };
         let slot = if self.rng.chance(20) { self.rng.below(256) } else { slot };
         let token = if self.rng.chance(100) { self.rng.next() as u32 } else { 0 };
@@ -331,14 +336,14 @@ impl Maker {
             self.operation(PIN, *slot);
             self.operation(UNPIN, *slot);
         }
-        let helper = rivals[0];
-        self.operation(PIN, helper);
+        let pusher = rivals[0];
+        self.operation(PIN, pusher);
         for _ in 0..1 + self.rng.below(6) {
-            self.defers(helper, 1);
-            self.operation(FLUSH, helper);
+            self.defers(pusher, 1);
+            self.operation(FLUSH, pusher);
         }
         for action in [REPIN, FLUSH, UNPIN] {
-            self.operation(action, helper);
+            self.operation(action, pusher);
         }
         for slot in &rivals {
             self.operation(PIN, *slot);

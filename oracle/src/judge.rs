@@ -6,7 +6,7 @@ use crate::collector::LocalHandle;
 use crate::coroutine;
 use crate::guard::Guard;
 use crate::place::{Course, Facts, Place};
-use crate::primitive::TURN;
+use crate::primitive::{Made, TURN};
 use crate::record::*;
 use crate::seen::{self, Seen};
 use crate::single::Single;
@@ -118,7 +118,7 @@ impl Judge {
             return Outcome::plain(Answer::Refused(number));
         }
         match (record.action, self.whole) {
-            (STEP, _) => self.step(record.participant as usize),
+            (STEP | MARKED, _) => self.step(record.participant as usize, record.action == MARKED),
             (_, false) => self.call(record),
             (_, true) => self.call_whole(record),
         }
@@ -162,7 +162,7 @@ impl Judge {
             _ if !record.formed => Some(13),
             REGISTER => (ARENA.smallest_free_slot() >= self.n).then_some(10),
             _ if !self.present(slot) => Some(3),
-            STEP => (!self.running(slot)).then_some(5),
+            STEP | MARKED => (!self.running(slot)).then_some(5),
             _ if self.running(slot) => Some(4),
             action => self.refused_at_rest(action, slot, record.token),
         }
@@ -218,17 +218,16 @@ impl Judge {
         Outcome::plain(self.answer(slot, record.action, ended))
     }
 
-    fn step(&mut self, slot: usize) -> Outcome {
+    fn step(&mut self, slot: usize, marked: bool) -> Outcome {
         let course = self.courses[slot].expect("running");
         let before = world::slot_bag(slot);
         let epoch = world::epoch();
-        unsafe { (*TURN.get()).count = 0 };
-        let ended = coroutine::resume(slot);
-        assert_eq!(unsafe { (*TURN.get()).count }, 1, "a step makes one access");
-        let access = world::access(unsafe { (*TURN.get()).made });
+        let (ended, made) = take_turn(slot, marked);
+        let access = world::access(made);
         self.note_access(slot, course.place.expect("stopped"), access);
         self.stopped(slot, ended, before, before.len());
         let mut seen = seen::look(&course, access, self.courses[slot].as_ref(), epoch);
+        seen.note_mark(marked, made.spurious);
         seen.bag_gone = seen.distance.is_some() && !self.holds[access.read as usize / 2 - 1];
         let freed = world::take_freed();
         let answer = self.answer(slot, course.action, ended);
@@ -313,6 +312,18 @@ impl Judge {
         let answer = self.answer(slot, record.action, true);
         Outcome { answer, freed: world::take_freed(), access: Access::default(), seen: None }
     }
+}
+
+/// Lets an operation make its one access, in a marked step or not. Whether it has ended, and the access.
+fn take_turn(slot: usize, marked: bool) -> (bool, Made) {
+    unsafe {
+        (*TURN.get()).count = 0;
+        (*TURN.get()).marked = marked;
+    }
+    let ended = coroutine::resume(slot);
+    unsafe { (*TURN.get()).marked = false };
+    assert_eq!(unsafe { (*TURN.get()).count }, 1, "a step makes one access");
+    (ended, unsafe { (*TURN.get()).made })
 }
 
 fn run_whole(owned: &mut Owned, record: Record, slot: usize) {

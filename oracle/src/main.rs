@@ -14,6 +14,7 @@ mod coverage;
 mod generate;
 mod judge;
 mod layout;
+mod marks;
 mod noise;
 mod place;
 mod play;
@@ -79,7 +80,10 @@ fn main() {
         Some("play") => play_command(arguments),
         Some("worked") => std::process::exit(i32::from(!worked::worked())),
         Some("generate") => generate_command(arguments),
-        Some("coverage") => coverage::coverage(arguments.number("--seed", 1), arguments.number("--records", 100_000)),
+        Some("coverage") => {
+            let (seed, records) = (arguments.number("--seed", 1), arguments.number("--records", 100_000));
+            coverage::coverage(seed, records, marked(&mut arguments));
+        }
         Some("agree") => {
             let agrees = agree::agree(arguments.number("--seed", 1), arguments.number("--records", 100_000));
             std::process::exit(i32::from(!agrees))
@@ -119,6 +123,15 @@ fn wish(arguments: &mut Arguments, profile: generate::Profile) -> generate::Wish
         n: arguments.number("--n", 32) as usize,
         m: arguments.number("--m", 128) as usize,
         wild: arguments.number("--wild", 0) as usize,
+        marked: marked(arguments),
+    }
+}
+
+/// Of 1000, since a registering whose every link is marked does not end.
+fn marked(arguments: &mut Arguments) -> usize {
+    match arguments.number("--marked", 0) {
+        few @ 0..=999 => few as usize,
+        _ => fail("--marked wants a number below 1000"),
     }
 }
 
@@ -141,18 +154,23 @@ fn stream_command(mut arguments: Arguments) {
     let first = wish(&mut arguments, generate::Profile::Whole);
     let mut out = std::io::BufWriter::new(std::io::stdout().lock());
     let mut written = spread::Written::default();
+    let mut tally = tally::Tally::default();
     for number in 0..schedules {
         let (turn, name) = generate::PROFILES[(number % 7) as usize];
         let wish = generate::Wish { seed: first.seed + number, profile: only.unwrap_or(turn), ..first };
         let mut text = String::new();
         let name = only.map_or(name, |profile| generate::PROFILES[profile as usize].1);
-        let shows = format!("N {} M {} wild {}", wish.n, wish.m, wish.wild);
+        let marks = if wish.marked == 0 { String::new() } else { format!(" marked {}", wish.marked) };
+        let shows = format!("N {} M {} wild {}{marks}", wish.n, wish.m, wish.wild);
         let run = generate::generate(wish);
         let name = format!("{name}, seed {}", wish.seed);
-        spread::write_schedule((&name, &shows), &run.log, (wish.n, wish.m), &mut written, &mut text);
+        tally.add(&spread::write_schedule((&name, &shows), &run.log, (wish.n, wish.m), &mut written, &mut text));
         out.write_all(text.as_bytes()).unwrap_or_else(|error| fail(&error.to_string()));
     }
     eprint!("{written}");
+    if first.marked > 0 {
+        eprintln!("{} marked steps, {} failed for no reason", tally.marked, tally.spurious());
+    }
 }
 
 /// Bytes for the schedule program that nobody asked for: records of which half are random bytes, and half have one thing wrong or nothing.

@@ -39,30 +39,38 @@ pub(crate) struct Asked {
     pub(crate) verb: Verb,
 }
 
-/// An access that was made. `won` is false for a failed exchange only; `stored` is then not meant.
+/// An access that was made. `won` is false for a failed exchange only; `stored` is then not meant. `spurious`: it failed although the value agreed.
 #[derive(Clone, Copy)]
 pub(crate) struct Made {
     pub(crate) address: usize,
     pub(crate) verb: Verb,
     pub(crate) won: bool,
+    pub(crate) spurious: bool,
     pub(crate) read: u64,
     pub(crate) stored: u64,
 }
 
-const NOTHING: Made = Made { address: 0, verb: Verb::Load, won: false, read: 0, stored: 0 };
+const NOTHING: Made = Made { address: 0, verb: Verb::Load, won: false, spurious: false, read: 0, stored: 0 };
 pub(crate) const TRACE: usize = 64;
 
 pub(crate) struct Turn {
     pub(crate) asked: Asked,
     pub(crate) made: Made,
+    /// This turn is a marked step: where its access is a weak exchange, that fails.
+    pub(crate) marked: bool,
     /// Number of accesses made since it was last set to 0; a turn must make exactly one.
     pub(crate) count: usize,
     /// The accesses of a whole operation, for finding the addresses at start-up.
     pub(crate) trace: [Made; TRACE],
 }
 
-pub(crate) static TURN: Single<Turn> =
-    Single::new(Turn { asked: Asked { address: 0, verb: Verb::Load }, made: NOTHING, count: 0, trace: [NOTHING; TRACE] });
+pub(crate) static TURN: Single<Turn> = Single::new(Turn {
+    asked: Asked { address: 0, verb: Verb::Load },
+    made: NOTHING,
+    marked: false,
+    count: 0,
+    trace: [NOTHING; TRACE],
+});
 
 #[inline(never)]
 fn stop(address: usize, verb: Verb) {
@@ -74,8 +82,23 @@ fn stop(address: usize, verb: Verb) {
 
 #[inline(never)]
 fn note(address: usize, verb: Verb, won: bool, read: u64, stored: u64) {
+    keep(Made { address, verb, won, spurious: false, read, stored });
+}
+
+/// Whether the step that is being made is a marked one.
+#[inline(never)]
+fn marked() -> bool {
+    unsafe { (*TURN.get()).marked }
+}
+
+/// A weak exchange that a marked step makes fail, whatever it found.
+#[inline(never)]
+fn note_failed(address: usize, agreed: bool, read: u64) {
+    keep(Made { address, verb: Verb::Exchange, won: false, spurious: agreed, read, stored: 0 });
+}
+
+fn keep(made: Made) {
     let turn = TURN.get();
-    let made = Made { address, verb, won, read, stored };
     unsafe {
         (*turn).made = made;
         if (*turn).count < TRACE {
@@ -89,7 +112,7 @@ pub(crate) mod sync {
     pub(crate) use alloc::sync::Arc;
 
     pub(crate) mod atomic {
-        use super::super::{note, stop, Verb};
+        use super::super::{marked, note, note_failed, stop, Verb};
         pub(crate) use core::sync::atomic::{compiler_fence, Ordering};
         use core::{cell::UnsafeCell, fmt, ptr};
 
@@ -143,6 +166,9 @@ pub(crate) mod sync {
                         _: Ordering,
                     ) -> Result<$int, $int> {
                         stop(self.address(), Verb::Exchange);
+                        self.exchange(current, new)
+                    }
+                    fn exchange(&self, current: $int, new: $int) -> Result<$int, $int> {
                         let read = self.read();
                         let won = read == current;
                         if won {
@@ -151,15 +177,21 @@ pub(crate) mod sync {
                         note(self.address(), Verb::Exchange, won, read as u64, if won { new as u64 } else { 0 });
                         if won { Ok(read) } else { Err(read) }
                     }
-                    /// Fails only on a different value, as document 01 says.
+                    /// Fails on a different value; and for no reason where the step is marked, as document 02's No. 2 says.
                     pub(crate) fn compare_exchange_weak(
                         &self,
                         current: $int,
                         new: $int,
-                        success: Ordering,
-                        failure: Ordering,
+                        _: Ordering,
+                        _: Ordering,
                     ) -> Result<$int, $int> {
-                        self.compare_exchange(current, new, success, failure)
+                        stop(self.address(), Verb::Exchange);
+                        if !marked() {
+                            return self.exchange(current, new);
+                        }
+                        let read = self.read();
+                        note_failed(self.address(), read == current, read as u64);
+                        Err(read)
                     }
                     pub(crate) fn fetch_or(&self, bits: $int, _: Ordering) -> $int {
                         stop(self.address(), Verb::FetchOr);

@@ -1,4 +1,4 @@
-//! Schedule records: eight bytes, as document 01 says.
+//! Schedule records: eight bytes, as document 01 says, and document 02's No. 2 of the tenth action.
 
 pub(crate) const STEP: u8 = 0;
 pub(crate) const REGISTER: u8 = 1;
@@ -9,6 +9,8 @@ pub(crate) const UNPIN: u8 = 5;
 pub(crate) const REPIN: u8 = 6;
 pub(crate) const DEFER: u8 = 7;
 pub(crate) const FLUSH: u8 = 8;
+/// A marked step: a weak exchange fails in it.
+pub(crate) const MARKED: u8 = 9;
 
 #[derive(Clone, Copy, PartialEq, Eq, Debug)]
 pub(crate) struct Record {
@@ -31,11 +33,16 @@ impl Record {
         };
         let [action, participant, a, b, t0, t1, t2, t3] = whole;
         let token = u32::from_le_bytes([t0, t1, t2, t3]);
-        let formed = action <= FLUSH
+        let formed = action <= MARKED
             && (a, b) == (0, 0)
             && (token == 0 || action == DEFER)
             && (participant == 0 || action != REGISTER);
         Record { action, participant, token, formed }
+    }
+
+    /// A step of a participant, marked or not.
+    pub(crate) fn steps(self) -> bool {
+        self.action == STEP || self.action == MARKED
     }
 
     pub(crate) fn bytes(self) -> [u8; 8] {

@@ -2,21 +2,25 @@
 
 use crate::arena::ARENA;
 use crate::judge::{Answer, Judge, Outcome};
-use crate::record::{Record, REGISTER, STEP};
+use crate::marks::Marks;
+use crate::record::{Record, MARKED, REGISTER, STEP};
 use crate::tally::Tally;
 
 pub(crate) struct Run {
     pub(crate) judge: Judge,
     pub(crate) log: Vec<Record>,
     pub(crate) tally: Tally,
+    /// Which of the steps that it is given become marked ones.
+    pub(crate) marks: Marks,
 }
 
 impl Run {
     pub(crate) fn start(n: usize, m: usize) -> Run {
-        Run { judge: Judge::start(n, m, false), log: Vec::new(), tally: Tally::default() }
+        Run { judge: Judge::start(n, m, false), log: Vec::new(), tally: Tally::default(), marks: Marks::none() }
     }
 
     pub(crate) fn play(&mut self, record: Record) -> Outcome {
+        let record = self.marks.put(record, &self.judge);
         self.log.push(record);
         let outcome = self.judge.play(record);
         self.tally.note(outcome.seen.as_ref(), outcome.freed.len());
@@ -29,6 +33,10 @@ impl Run {
 
     pub(crate) fn step(&mut self, slot: usize) -> Outcome {
         self.call(STEP, slot, 0)
+    }
+
+    pub(crate) fn marked_step(&mut self, slot: usize) -> Outcome {
+        self.call(MARKED, slot, 0)
     }
 
     /// Steps a participant until its operation is done.

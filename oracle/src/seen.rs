@@ -25,6 +25,21 @@ pub(crate) struct Seen {
     pub(crate) tagged_null: bool,
     /// `pop next` judged a node by its seal whose bag was popped and freed before.
     pub(crate) bag_gone: bool,
+    /// The step was a marked one.
+    pub(crate) marked: bool,
+}
+
+/// What comes of a marked step at `register link` where the value agrees.
+pub(crate) const SPURIOUS: &str = "failed for no reason";
+
+impl Seen {
+    pub(crate) fn note_mark(&mut self, marked: bool, spurious: bool) {
+        self.marked = marked;
+        if spurious {
+            assert!(marked && self.place == Place::RegisterLink, "the one weak exchange, in a marked step");
+            self.outcome = SPURIOUS;
+        }
+    }
 }
 
 pub(crate) fn look(course: &Course, access: Access, next: Option<&Course>, epoch: u64) -> Seen {
@@ -37,6 +52,7 @@ pub(crate) fn look(course: &Course, access: Access, next: Option<&Course>, epoch
         distance: distance(course, place, access),
         tagged_null: matches!(access.word, 1 | 2) && (access.read == 1 || access.stored == 1),
         bag_gone: false,
+        marked: false,
     }
 }
 

@@ -3,18 +3,20 @@
 
 use crate::generate::{generate, nearly_full_round, Profile, Wish, PROFILES};
 use crate::judge::Judge;
-use crate::place::THENS;
+use crate::place::{Place, THENS};
 use crate::play::recorded_line;
 use crate::record::Record;
 use crate::seen::Seen;
 use crate::state::Book;
 use crate::tally::{key, Key, Tally};
-use crate::worked;
+use crate::worked::{self, Worked};
 use std::collections::{BTreeMap, BTreeSet};
 
 const SHORT: usize = 350;
 const PER_PROFILE: u64 = 500;
 const ROUNDS: u64 = 4000;
+/// Of 1000 steps, in the schedules that have marks.
+const MARKS: usize = 100;
 
 #[derive(Clone, Copy, PartialEq, Eq, PartialOrd, Ord)]
 enum Feature {
@@ -24,6 +26,8 @@ enum Feature {
     BagGone,
     /// More than one token freed in a step.
     Several,
+    /// A marked step, by its place and what came of it.
+    Marked(Place, &'static str),
 }
 
 struct Candidate {
@@ -33,13 +37,14 @@ struct Candidate {
     first: BTreeMap<Feature, usize>,
 }
 
-fn features(seen: &Seen, freed: usize) -> [Option<Feature>; 5] {
+fn features(seen: &Seen, freed: usize) -> [Option<Feature>; 6] {
     [
         Some(Feature::Step(key(seen))),
         seen.distance.map(Feature::Distance),
         seen.tagged_null.then_some(Feature::TaggedNull),
         seen.bag_gone.then_some(Feature::BagGone),
         (freed > 1).then_some(Feature::Several),
+        seen.marked.then_some(Feature::Marked(seen.place, seen.outcome)),
     ]
 }
 
@@ -56,15 +61,18 @@ fn candidate(name: String, log: Vec<Record>) -> Candidate {
     Candidate { name, log, first }
 }
 
-fn candidates(seed: u64) -> Vec<Candidate> {
+fn candidates(seed: u64, marked: usize) -> Vec<Candidate> {
+    let marks = if marked == 0 { String::new() } else { format!(", marked {marked}") };
     let mut made = Vec::new();
     for (profile, name) in PROFILES.into_iter().filter(|(profile, _)| *profile != Profile::NearlyFull) {
         for number in seed..seed + PER_PROFILE {
-            made.push(candidate(format!("{name}, seed {number}"), generate(Wish::new(number, profile, SHORT)).log));
+            let wish = Wish { marked, ..Wish::new(number, profile, SHORT) };
+            made.push(candidate(format!("{name}, seed {number}{marks}"), generate(wish).log));
         }
     }
     for number in seed..seed + ROUNDS {
-        made.push(candidate(format!("nearly-full, one round, seed {number}"), nearly_full_round(number).log));
+        let log = nearly_full_round(number, marked).log;
+        made.push(candidate(format!("nearly-full, one round, seed {number}{marks}"), log));
     }
     made
 }
@@ -99,6 +107,7 @@ fn describe(feature: &Feature) -> String {
         Feature::TaggedNull => String::from("tagged null"),
         Feature::BagGone => String::from("a node judged whose bag is gone"),
         Feature::Several => String::from("several tokens freed in a step"),
+        Feature::Marked(place, outcome) => format!("marked, {}: {outcome}", place.name()),
     }
 }
 
@@ -141,25 +150,50 @@ pub(crate) fn write_schedule(
     tally
 }
 
-/// The answers, their table, and how much was written.
+/// What is written so far, and what it shows.
+struct Spread {
+    text: String,
+    tally: Tally,
+    have: BTreeSet<Feature>,
+    written: Written,
+}
+
+impl Spread {
+    fn begin(seed: u64) -> Spread {
+        let text = format!("# Answers of crossbeam-epoch 0.9.21, recorded by `oracle record --seed {seed}`. Form: oracle/README.md.\n");
+        Spread { text, tally: Tally::default(), have: BTreeSet::new(), written: Written::default() }
+    }
+
+    fn write(&mut self, name: &str, shows: &str, log: &[Record]) {
+        self.tally.add(&write_schedule((name, shows), log, (32, 128), &mut self.written, &mut self.text));
+    }
+
+    fn work(&mut self, runs: impl Iterator<Item = Worked>) {
+        for worked in runs.filter(|worked| worked.usual) {
+            let log = worked.run.log.clone();
+            self.have.extend(candidate(String::new(), log.clone()).first.into_keys());
+            self.write(worked.name, worked.says, &log);
+        }
+    }
+
+    fn choose(&mut self, made: &[Candidate]) {
+        while let Some((at, records)) = best(made, &self.have) {
+            let new: Vec<&Feature> = made[at].first.keys().filter(|feature| !self.have.contains(feature)).collect();
+            let shows: Vec<String> = new.into_iter().map(describe).collect();
+            self.write(&made[at].name, &shows.join("; "), &made[at].log[..records]);
+            self.have.extend(made[at].first.keys());
+        }
+    }
+}
+
+/// The answers, their table, and how much was written. What has marked steps stands behind all that has none.
 pub(crate) fn record(seed: u64) -> (String, String, Written) {
-    let mut text = format!("# Answers of crossbeam-epoch 0.9.21, recorded by `oracle record --seed {seed}`. Form: oracle/README.md.\n");
-    let mut tally = Tally::default();
-    let mut have = BTreeSet::new();
-    let mut written = Written::default();
-    for worked in worked::all().filter(|worked| worked.usual) {
-        let log = worked.run.log.clone();
-        have.extend(candidate(String::new(), log.clone()).first.into_keys());
-        tally.add(&write_schedule((worked.name, worked.says), &log, (32, 128), &mut written, &mut text));
-    }
-    let made = candidates(seed);
-    while let Some((at, records)) = best(&made, &have) {
-        let new: Vec<&Feature> = made[at].first.keys().filter(|feature| !have.contains(feature)).collect();
-        let shows: Vec<String> = new.into_iter().map(describe).collect();
-        let log = &made[at].log[..records];
-        tally.add(&write_schedule((&made[at].name, &shows.join("; ")), log, (32, 128), &mut written, &mut text));
-        have.extend(made[at].first.keys());
-    }
+    let mut spread = Spread::begin(seed);
+    spread.work(worked::all());
+    spread.choose(&candidates(seed, 0));
+    spread.work(worked::marked());
+    spread.choose(&candidates(seed, MARKS));
+    let Spread { text, tally, written, .. } = spread;
     let table = coverage_page(seed, written.schedules, text.len(), &tally);
     (text, table, written)
 }

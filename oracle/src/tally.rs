@@ -1,7 +1,7 @@
 //! Counts of what was seen, by place and outcome, and their tables.
 
 use crate::place::{Place, Then, PLACES, THENS};
-use crate::seen::{Seen, Within};
+use crate::seen::{Seen, Within, SPURIOUS};
 use std::collections::BTreeMap;
 use std::fmt::Write as _;
 
@@ -16,6 +16,7 @@ pub(crate) struct Tally {
     pub(crate) bags_gone: u64,
     pub(crate) freed: u64,
     pub(crate) steps: u64,
+    pub(crate) marked: u64,
     pub(crate) records: u64,
 }
 
@@ -29,6 +30,7 @@ impl Tally {
         self.freed += freed as u64;
         let Some(seen) = seen else { return };
         self.steps += 1;
+        self.marked += u64::from(seen.marked);
         *self.counts.entry(key(seen)).or_default() += 1;
         self.tagged_nulls += u64::from(seen.tagged_null);
         self.bags_gone += u64::from(seen.bag_gone);
@@ -48,11 +50,17 @@ impl Tally {
         self.bags_gone += other.bags_gone;
         self.freed += other.freed;
         self.steps += other.steps;
+        self.marked += other.marked;
         self.records += other.records;
     }
 
     pub(crate) fn of(&self, place: Place, outcome: &str) -> u64 {
         self.counts.iter().filter(|(key, _)| key.0 == place && key.3 == outcome).map(|(_, count)| count).sum()
+    }
+
+    /// Marked steps whose weak exchange failed although the value agreed.
+    pub(crate) fn spurious(&self) -> u64 {
+        self.of(Place::RegisterLink, SPURIOUS)
     }
 
     /// Place by outcome; a push is given for each thing that it can belong to.
@@ -90,6 +98,7 @@ impl Tally {
         let (same, new) = (self.of(Place::AdvanceStore, "same value"), self.of(Place::AdvanceStore, "new value"));
         let distances: Vec<String> = self.distances.iter().map(|(d, count)| format!("{d}: {count}")).collect();
         let mut text = format!("Records {}, steps {}, tokens freed {}.\n", self.records, self.steps, self.freed);
+        let _ = writeln!(text, "Marked steps {}, of which {} failed for no reason.", self.marked, self.spurious());
         let _ = writeln!(text, "Epoch stores {}: {same} of them write the value that stands there.", same + new);
         let _ = writeln!(text, "Epoch stores that lower the epoch: {}.", self.of(Place::AdvanceStore, "LOWER VALUE"));
         let _ = writeln!(text, "Distances at `pop next`: {}.", distances.join(", "));
@@ -102,7 +111,8 @@ impl Tally {
 /// What can come of a step at a place.
 fn outcomes(place: Place) -> &'static [&'static str] {
     match place {
-        Place::RegisterLink | Place::PopExchange | Place::PopTailMove => &["won", "lost"],
+        Place::RegisterLink => &["won", "lost", SPURIOUS],
+        Place::PopExchange | Place::PopTailMove => &["won", "lost"],
         Place::PushHelp | Place::PushLink | Place::PushMove => &["won", "lost"],
         Place::PinWord => &["done", "collects", "pushes"],
         Place::RepinEpoch => &["equal", "unequal"],

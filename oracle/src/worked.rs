@@ -1,11 +1,12 @@
-//! The runs that document 01 works by hand, [P] or not, each with what the document says and what came out.
+//! The runs that document 01 works by hand, [P] or not, each with what the document says and what came out; and some with marked steps.
 
 use crate::epoch::Epoch;
 use crate::judge::Answer;
 use crate::place::Place;
+use crate::marks::Marks;
 use crate::record::*;
 use crate::run::Run;
-use crate::world::{self, Item};
+use crate::world::{self, Access, Item};
 use core::fmt::Debug;
 
 /// A run by name. `says` is what the document says.
@@ -84,8 +85,15 @@ const ALL: [fn() -> Worked; 22] = [
     nobody_left,
 ];
 
+/// Runs with marked steps (document 02, No. 2).
+const MARKS: [fn() -> Worked; 4] = [marked_link, marked_elsewhere, marked_and_lost, marked_refusals];
+
 pub(crate) fn all() -> impl Iterator<Item = Worked> {
     ALL.iter().map(|make| make())
+}
+
+pub(crate) fn marked() -> impl Iterator<Item = Worked> {
+    MARKS.iter().map(|make| make())
 }
 
 fn whole_case() -> Worked {
@@ -422,7 +430,7 @@ fn refusals() -> Worked {
     let mut w = Worked::new("refusals", "3, 4, 5, 6, 7, 9, 10, 13 by the table, in its order");
     let large = Record::new(DEFER, 0, 2_147_483_648);
     w.refused(3, [Record::new(PIN, 0, 0), Record::new(STEP, 32, 0), large]);
-    w.refused(13, [[9, 0, 0, 0, 0, 0, 0, 0], [REGISTER, 1, 0, 0, 0, 0, 0, 0], [PIN, 0, 0, 0, 1, 0, 0, 0]].map(|b| Record::read(&b)));
+    w.refused(13, [[10, 0, 0, 0, 0, 0, 0, 0], [REGISTER, 1, 0, 0, 0, 0, 0, 0], [PIN, 0, 0, 0, 1, 0, 0, 0]].map(|b| Record::read(&b)));
     w.run.call(REGISTER, 0, 0);
     w.refused(4, [PIN, FLUSH].map(|action| Record::new(action, 0, 0)));
     w.run.finish(0);
@@ -494,6 +502,87 @@ fn nobody_left() -> Worked {
     w
 }
 
+/// The access of a link that fails for no reason: kind 4, list head, index 0, the value that stands there, nothing stored.
+fn failed_on(read: u64) -> Access {
+    Access { kind: 4, word: world::LIST_HEAD, index: 0, read, stored: 0 }
+}
+
+fn marked_link() -> Worked {
+    let mut w = Worked::new(
+        "a marked link",
+        "(document 02, No. 2) register, step, step, marked step: more, then more, done 0; twice in a row for the second slot",
+    );
+    w.run.call(REGISTER, 0, 0);
+    let marks = [false, false, true, false, false];
+    let steps: Vec<_> = marks.iter().map(|mark| if *mark { w.run.marked_step(0) } else { w.run.step(0) }).collect();
+    let lines: Vec<String> = steps.iter().map(|step| step.line()).collect();
+    w.expect("lines", lines, ["more", "more", "more", "more", "done 0"].map(String::from).to_vec());
+    w.expect("access of the marked step", steps[2].access, failed_on(0));
+    w.expect("access of the last step, kind and value stored", (steps[4].access.kind, steps[4].access.stored), (3, 2));
+    w.run.call(REGISTER, 0, 0);
+    w.run.step(1);
+    for _ in 0..2 {
+        w.run.step(1);
+        let failed = w.run.marked_step(1);
+        w.expect("answer and access of a failure", (failed.answer, failed.access), (Answer::More, failed_on(2)));
+        w.expect("list head and own next after it", (world::list_head(), world::entry_next(1)), (2, 2));
+    }
+    let steps = w.run.finish(1).len();
+    w.expect("steps from there to the end", steps, 2);
+    w
+}
+
+/// The life of a token and a release, every step of them marked: document 01's numbers.
+fn marked_elsewhere() -> Worked {
+    let mut w = Worked::new(
+        "marks that have no effect",
+        "(document 02, No. 2) at every other access: 9 steps; 11, 1, 2, 7, 3, and 11 with 7 freed in the 9th; 1 and 9 for unpin and release",
+    )
+    .registered();
+    w.run.marks = Marks::every();
+    let steps = w.count(PIN, 0, 0);
+    w.expect("steps of the first pin", steps, 9);
+    w.expect("own word, global word", (world::own_word(0), world::epoch()), (1, 2));
+    w.run.call(DEFER, 0, 7);
+    let steps = [FLUSH, UNPIN, PIN, FLUSH, REPIN].map(|action| w.count(action, 0, 0));
+    w.expect("steps of flush, unpin, pin, flush, repin", steps, [11, 1, 2, 7, 3]);
+    w.expect("own word, global word", (world::own_word(0), world::epoch()), (5, 4));
+    let last = w.run.operation(FLUSH, 0, 0);
+    w.expect("steps of the last flush, and what the 9th frees", (last.len(), last[8].freed.clone()), (11, vec![7]));
+    let steps = [UNPIN, RELEASE].map(|action| w.count(action, 0, 0));
+    w.expect("steps of unpin and release", steps, [1, 9]);
+    w.expect("marked steps, and those that failed", (w.run.tally.marked, w.run.tally.spurious()), (54, 0));
+    w
+}
+
+/// B links between A's load of the head and A's link: there the mark has no effect, the value differs.
+fn marked_and_lost() -> Worked {
+    let mut w = Worked::new("a marked link that is lost", "(document 02, No. 2) where the value differs, marked and unmarked agree");
+    w.run.call(REGISTER, 0, 0);
+    w.run.call(REGISTER, 0, 0);
+    w.run.step(0);
+    w.run.step(0);
+    w.run.finish(1);
+    let lost = w.run.marked_step(0);
+    w.expect("access of A's link", lost.access, failed_on(4));
+    w.expect("what came of it", lost.seen.map(|seen| seen.outcome), Some("lost"));
+    w.run.step(0);
+    w.expect("A's own next (slot 1 is 4)", world::entry_next(0), 4);
+    let last = w.run.step(0).answer;
+    w.expect("A's last step", last, Answer::Done(0));
+    w
+}
+
+fn marked_refusals() -> Worked {
+    let mut w = Worked::new("a marked step that is refused", "(document 02, No. 2) as one without a mark; 10 and above are no actions");
+    w.refused(3, [0, 31, 32].map(|slot| Record::new(MARKED, slot, 0)));
+    w.run.call(REGISTER, 0, 0);
+    w.refused(13, [[10, 0, 0, 0, 0, 0, 0, 0], [MARKED, 0, 0, 0, 1, 0, 0, 0], [255, 0, 0, 0, 0, 0, 0, 0]].map(|b| Record::read(&b)));
+    w.run.finish(0);
+    w.refused(5, [Record::new(MARKED, 0, 0)]);
+    w
+}
+
 /// The seven distances, through the crate's own `wrapping_sub`.
 fn distances() -> bool {
     let word = |data: u64| unsafe { core::mem::transmute::<u64, Epoch>(data) };
@@ -519,7 +608,7 @@ fn distances() -> bool {
 /// Prints every run; false if one came out differently.
 pub(crate) fn worked() -> bool {
     let mut same = distances();
-    for w in all() {
+    for w in all().chain(marked()) {
         println!("{} ({} records)\n  document: {}", w.name, w.run.log.len(), w.says);
         w.notes.iter().for_each(|note| println!("  {note}"));
         println!("  {}", if w.same { "ok" } else { "DIFFERENT" });

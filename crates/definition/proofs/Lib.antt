@@ -5,4 +5,6 @@ pub mod Needs
 pub mod Within
 pub mod Kept
 pub mod Opens
+pub mod Refusals
+pub mod Marks
 pub mod Worked

@@ -27,12 +27,12 @@ unfolding Epoch.starting Epoch.isPinned Epoch.unpinned Epoch.pinned Epoch.succes
     Links.isNull Links.index Links.isTagged Links.tagged Links.pointee Links.pointer Links.nodeAt Bags.maxObjects Bags.isExpired
     Bags.itemWord Bags.itemOf Bags.items Bags.moved Bags.tokens Bags.freeSlots Bags.freeNodes Tables.read Tables.write Flow.on Flow.done
     Flow.also Flow.finalize Flow.collected Flow.collectSteps Flow.pops Flow.advanced Flow.walk Flow.waiting Flow.placed Flow.defer
-    Flow.pushed Rule.asks Rule.follows Rule.agrees Rule.sees Rule.leaves Rule.exchanged Rule.made Rule.kindNumber Rule.wordNumber
-    Rule.wordIndex List.insert List.delete List.predWord List.iterate Queue.sealBag Queue.push Queue.pop Internal.pinningsBetweenCollect
+    Flow.pushed Rule.asks Rule.follows Rule.agrees Rule.sees Rule.leaves Rule.exchanged Rule.made Rule.isWeak Rule.fails
+    Rule.missed Rule.failed Rule.kindNumber Rule.wordNumber Rule.wordIndex List.insert List.delete List.predWord List.iterate Queue.sealBag Queue.push Queue.pop Internal.pinningsBetweenCollect
     Internal.collects Internal.pinCounted Internal.pinEpoch Internal.pinWord Internal.unpinWord Internal.repin Internal.advanceEpoch
     Internal.advanceWord Internal.advanceStore Internal.finalWord Internal.rule Codec.ownerNumber Codec.predPointer Codec.thenCode
     Codec.codeOf Codec.recordOf Codec.ownerOf Codec.predOf Codec.thenOf Codec.placeOf Codec.participantOf Codec.sameCode Step.putItem
-    Step.sealInto Step.inBag Step.freeBag Step.settle Step.freedBy Step.answerOf Step.follow Step.ruleAt Step.takeStep Step.accessAt
+    Step.sealInto Step.inBag Step.freeBag Step.settle Step.freedBy Step.answerOf Step.follow Step.ruleAt Step.takeStep Step.takeMarked Step.accessAt
     Calls.maxCount Calls.maxToken Calls.lacks Calls.countFull Calls.tokenAbove Calls.finalizes Calls.overflow Calls.pinNeeds Calls.needs
     Calls.begins Calls.opens Ranges.maxParticipants Ranges.maxNodes Ranges.withinLimits Ranges.bitWords Ranges.isRest Ranges.slotIn
     Ranges.nodeIn Ranges.ptrIn Ranges.predIn Ranges.cursorIn Ranges.popsIn Ranges.thenIn Ranges.registerIn Ranges.walkIn Ranges.popIn

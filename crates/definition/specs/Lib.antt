@@ -14,6 +14,7 @@ pub mod Calls
 pub mod Ranges
 pub mod Layout
 pub mod Public
+pub mod Marks
 pub mod Survey
 pub mod Runs
 pub mod Schedule

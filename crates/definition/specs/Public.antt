@@ -12,7 +12,7 @@ use Rattle.definition.specs.Links.{null, isTagged}
 use Rattle.definition.specs.Bags.{maxObjects}
 use Rattle.definition.specs.Tables.{Tables, write, withShared, withOwn, withFree}
 use Rattle.definition.specs.Codec.{recordOf, participantOf, placeOf}
-use Rattle.definition.specs.Step.{Out, follow, takeStep}
+use Rattle.definition.specs.Step.{Out, follow, takeMarked}
 use Rattle.definition.specs.Calls.{lacks, countFull, tokenAbove, needs, opens}
 use Rattle.definition.specs.Ranges.{withinLimits, isRest, inRange, fresh}
 use Rattle.definition.specs.Layout.{Lent, lent, sized, tablesOf, lentOf}
@@ -113,13 +113,13 @@ module _ (N M : ℕ) where
   unfoldable pub register : Tables → Out
   register t = unless (registerChecks t) t (enrolled (least N (t .slotFree)) t)
 
-  -- a step of participant p, with `places` places for freed tokens: 1, 12, 3, 5, then 1 for the missing node
+  -- a step of participant p, marked or not, with `places` places for freed tokens: 1, 12, 3, 5, then 1 for the missing node
   unfoldable pub stepChecks : ℕ → ℕ → Tables → List Check
   stepChecks places p t =
       check 1 (damaged t) ∷ check 12 (ltb places maxObjects) ∷ check 3 (absent p t) ∷ check 5 (not (running p t)) ∷ check 1 (missing p t) ∷ []
 
-  unfoldable pub step : ℕ → ℕ → Tables → Out
-  step places p t = unless (stepChecks places p t) t (takeStep M p t)
+  unfoldable pub step : (marked : Bool) → ℕ → ℕ → Tables → Out
+  step marked places p t = unless (stepChecks places p t) t (takeMarked marked M p t)
 
 -- on lent lists: the answer, the lists, and the list for freed tokens, afterwards
 pub record Outcome : Type 0 where
@@ -156,5 +156,5 @@ registerLent N M l = lending N M l [] (register N M)
 unfoldable pub callLent : (N M : ℕ) → Lent → ℕ → Call → Outcome
 callLent N M l p c = lending N M l [] (call N M p c)
 
-unfoldable pub stepLent : (N M : ℕ) → Lent → ℕ → List ℕ → Outcome
-stepLent N M l p places = lending N M l places (step N M (length places) p)
+unfoldable pub stepLent : (N M : ℕ) → Lent → ℕ → (marked : Bool) → List ℕ → Outcome
+stepLent N M l p marked places = lending N M l places (step N M marked (length places) p)

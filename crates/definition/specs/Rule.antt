@@ -1,6 +1,7 @@
 -- A rule: the one access that a place makes, and what follows for every value that it can see. Which kind of access it is is the rule's
--- form, so that a rule reads as the line of the Rust that it renders. What an access sees, and what it leaves behind. Assumes nothing.
-use mathlib.Core.Bool.{Bool, true}
+-- form, so that a rule reads as the line of the Rust that it renders. What an access sees, and what it leaves behind; and which one fails for no
+-- reason. Assumes nothing.
+use mathlib.Core.Bool.{Bool, true, false, _&&_}
 use Prim.Native.Nat.{ℕ}
 use lib.Dec.{eqb}
 use Rattle.definition.specs.Base.{branch}
@@ -9,7 +10,7 @@ use Rattle.definition.specs.Tables.{Shared, read, write}
 use Rattle.definition.specs.Types.{Word, Ask, Seen, Kind, Access, After}
 
 -- `load`, with the value; `store` of a value; `compare_exchange` of an expected value for a new one, won, or lost to the value found;
--- `compare_exchange_weak`, which document 01 takes to fail only on a different value; `fetch_or` of the tag
+-- `compare_exchange_weak`, which may also fail for no reason (`fails`, below); `fetch_or` of the tag
 pub data Rule : Type 0 where
   load : Word → (ℕ → After) → Rule
   store : Word → (new : ℕ) → After → Rule
@@ -64,6 +65,25 @@ made (Ask.Store w v) s = record { kind = Kind.Store; word = w; read = 0; stored 
 made (Ask.Exchange w e v) s = exchanged w e v s
 made (Ask.ExchangeWeak w e v) s = exchanged w e v s
 made (Ask.FetchOr w) s = record { kind = Kind.FetchOr; word = w; read = read w s; stored = tagged (read w s) }
+
+-- document 02, No. 2, which strikes out 01's sentence that `compare_exchange_weak` fails only on a different value: in a marked step it fails
+-- although the value agrees. At every other access the mark has no effect
+unfoldable pub isWeak : Ask → Bool
+isWeak (Ask.Load w) = false
+isWeak (Ask.Store w v) = false
+isWeak (Ask.Exchange w e v) = false
+isWeak (Ask.ExchangeWeak w e v) = true
+isWeak (Ask.FetchOr w) = false
+
+unfoldable pub fails : (marked : Bool) → Ask → Bool
+fails marked ask = marked && isWeak ask
+
+-- an exchange that fails so: it sees the value that stands there and is not done; as an access, it is one that failed and stored nothing
+unfoldable pub missed : Seen → Seen
+missed s = record { value = s .value; won = false }
+
+unfoldable pub failed : Access → Access
+failed a = record { kind = Kind.ExchangeFailed; word = a .word; read = a .read; stored = 0 }
 
 -- document 02, No. 1: an access and a shared word by number, and the index of the word
 unfoldable pub kindNumber : Kind → ℕ

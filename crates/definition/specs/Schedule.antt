@@ -18,16 +18,17 @@ use Rattle.definition.specs.Types.{Call, Answer}
 unfoldable pub tokenIn : List ℕ → ℕ
 tokenIn b = getD b 4 0 + 256 * (getD b 5 0 + 256 * (getD b 6 0 + 256 * getD b 7 0))
 
--- the nine actions
+-- document 01's nine actions, and 9, a marked step (document 02, No. 2)
 unfoldable pub actionOf : (action participant token : ℕ) → Event
-actionOf a p t = branch (eqb a 0) (Event.steps p) (branch (eqb a 1) Event.registers
+actionOf a p t = branch (eqb a 0) (Event.steps p false) (branch (eqb a 1) Event.registers
     (branch (eqb a 2) (Event.calls p Call.Acquire) (branch (eqb a 3) (Event.calls p Call.Release)
     (branch (eqb a 4) (Event.calls p Call.Pin) (branch (eqb a 5) (Event.calls p Call.Unpin)
-    (branch (eqb a 6) (Event.calls p Call.Repin) (branch (eqb a 7) (Event.calls p (Call.Defer t)) (Event.calls p Call.Flush))))))))
+    (branch (eqb a 6) (Event.calls p Call.Repin) (branch (eqb a 7) (Event.calls p (Call.Defer t))
+    (branch (eqb a 8) (Event.calls p Call.Flush) (Event.steps p true)))))))))
 
--- what makes a record whole: 8 bytes, an action of 0 to 8, zero bytes, a token for a defer only, no participant for a register
+-- what makes a record whole: 8 bytes, an action of 0 to 9, zero bytes, a token for a defer only, no participant for a register
 unfoldable pub whole : List ℕ → Bool
-whole b = eqb (length b) 8 && leb (getD b 0 0) 8 && eqb (getD b 2 0) 0 && eqb (getD b 3 0) 0
+whole b = eqb (length b) 8 && leb (getD b 0 0) 9 && eqb (getD b 2 0) 0 && eqb (getD b 3 0) 0
     && branch (eqb (getD b 0 0) 7) true (eqb (tokenIn b) 0) && branch (eqb (getD b 0 0) 1) (eqb (getD b 1 0) 0) true
 
 -- one record: 13 where it is broken, with nothing changed

@@ -4,12 +4,12 @@ use mathlib.Core.Bool.{Bool, true, false}
 use mathlib.Core.List.{List, []}
 use Prim.Native.Nat.{ℕ, _+_, _-_}
 use lib.ListN.{length}
-use Rattle.definition.specs.Base.{put, least}
+use Rattle.definition.specs.Base.{branch, put, least}
 use Rattle.definition.specs.Links.{null}
 use Rattle.definition.specs.Bags.{SealedBag, itemWord, items, moved, tokens, freeSlots, freeNodes}
 use Rattle.definition.specs.Tables.{Tables, write, withShared, withOwn, withHeld, withBag, withFree, withAside}
 use Rattle.definition.specs.Codec.{recordOf, participantOf}
-use Rattle.definition.specs.Rule.{Rule, asks, follows, sees, leaves, made}
+use Rattle.definition.specs.Rule.{Rule, asks, follows, sees, leaves, made, fails, missed, failed}
 use Rattle.definition.specs.Internal.{rule}
 use Rattle.definition.specs.Types.{Slot, Node, Item, Participant, Word, Access, Work, End, After, Answer, slot, node}
 
@@ -78,6 +78,16 @@ takeStep M p t =
     let r = ruleAt M p t in
     follow p (follows r (sees (asks r) (t .shared))) (withShared (leaves (asks r) (t .shared)) t)
 
+-- document 02, No. 2: the step of p, marked or not. Where its access fails for no reason, what follows a lost exchange follows, on the shared words
+-- as they were
+unfoldable pub takeMarked : (marked : Bool) → ℕ → ℕ → Tables → Out
+takeMarked marked M p t =
+    let r = ruleAt M p t in
+    branch (fails marked (asks r)) (follow p (follows r (missed (sees (asks r) (t .shared)))) t) (takeStep M p t)
+
 -- the access that it makes
-unfoldable pub accessAt : ℕ → ℕ → Tables → Access
-accessAt M p t = made (asks (ruleAt M p t)) (t .shared)
+unfoldable pub accessAt : (marked : Bool) → ℕ → ℕ → Tables → Access
+accessAt marked M p t =
+    let ask = asks (ruleAt M p t) in
+    let a = made ask (t .shared) in
+    branch (fails marked ask) (failed a) a

@@ -1,9 +1,10 @@
 -- The cases that document 01 works by hand and marks [P], as one table: the seven distances, the runs, and the schedule program's whole
 -- case, each with what it must give. The runs are with 1 participant and 2 nodes, the fewest, and those of the first pin, of the flush that
 -- frees and of register, release, pin also with 32 and 128, the most. Of a run is shown what its last operation did, and where that left
--- participant 0's word and bag, the global word, and every bag in the queue, with its seal and its items. Last, from document 01's table of
--- refusals, 11: given where more is set aside than is free, not given where just as much is. proofs/Worked shows by computation that the
--- definition gives it all. Assumes nothing.
+-- participant 0's word and bag, the global word, and every bag in the queue, with its seal and its items. These are of unmarked steps. Then, from
+-- document 01's table of refusals, 11: given where more is set aside than is free, not given where just as much is. Last, from document 02,
+-- No. 2: marked steps. proofs/Worked shows by computation that the definition gives it all. Assumes nothing.
+use mathlib.Core.Bool.{true, false}
 use mathlib.Core.List.{List, [], _∷_, _++_, map}
 use Prim.Native.Nat.{ℕ, zero, suc, _+_}
 use lib.IntN.{ℤ}
@@ -16,7 +17,7 @@ use Rattle.definition.specs.Bags.{items}
 use Rattle.definition.specs.Tables.{Tables, withAside}
 use Rattle.definition.specs.Step.{Out, inBag}
 use Rattle.definition.specs.Ranges.{fresh}
-use Rattle.definition.specs.Runs.{Event, does}
+use Rattle.definition.specs.Runs.{Event, does, run}
 use Rattle.definition.specs.Schedule.{schedule}
 use Rattle.definition.specs.Types.{Item, Call, Answer, node}
 
@@ -42,18 +43,21 @@ pub record Shown : Type 0 where
   pub queue : List Queued
 
 -- a question: a distance; operations of participant 0, one after another, each stepped to its end, with N participants and M nodes; the
--- output for an input of the schedule program; the answer to a last event, after operations, with another set-aside total in the tables
+-- output for an input of the schedule program; the answer to a last event, after operations, with another set-aside total in the tables; the
+-- answers to events, each an event by itself
 pub data Question : Type 0 where
   distance : (a b : ℕ) → Question
   operations : (N M : ℕ) → List Event → Question
   output : List ℕ → Question
   answer : (N M : ℕ) → List Event → (aside : ℕ) → Event → Question
+  answers : (N M : ℕ) → List Event → Question
 
 pub data Reply : Type 0 where
   isNumber : ℤ → Reply
   isShown : Shown → Reply
   isBytes : List ℕ → Reply
   isAnswer : Answer → Reply
+  areAnswers : List Answer → Reply
 
 -- an operation under way: the tables, the last answer, the steps made, what was freed so far
 pub record Underway : Type 0 where
@@ -74,7 +78,7 @@ module _ (N M : ℕ) where
   unfoldable pub stepped : ℕ → Underway → Underway
   stepped zero u = u
   stepped (suc fuel) u = elim (u .answer) [
-    | Answer.More k ↦ let o : Out = does N M (Event.steps 0) (u .tables) in
+    | Answer.More k ↦ let o : Out = does N M (Event.steps 0 false) (u .tables) in
         stepped fuel (record { tables = o .tables; answer = o .answer; steps = u .steps + 1; freed = noted (u .steps + 1) (o .freed) (u .freed) })
     | Answer.Done v k ↦ u
     | Answer.Refused r ↦ u
@@ -111,6 +115,7 @@ reply (Question.distance a b) = Reply.isNumber (wrappingSub a b)
 reply (Question.operations N M l) = Reply.isShown (shown M (fromStart N M l))
 reply (Question.output b) = Reply.isBytes (schedule b)
 reply (Question.answer N M l aside v) = Reply.isAnswer (does N M v (withAside aside (fromStart N M l .tables)) .answer)
+reply (Question.answers N M l) = Reply.areAnswers (map (λ (o : Out). o .answer) (run N M l (fresh N M)))
 
 pub record Case : Type 0 where
   pub asks : Question
@@ -143,6 +148,16 @@ flush = Event.calls 0 Call.Flush
 
 abbrev pub done : Answer
 done = Answer.Done 0 0
+
+abbrev pub more : Answer
+more = Answer.More 0
+
+-- a step of participant 0, and a marked one
+abbrev pub step : Event
+step = Event.steps 0 false
+
+abbrev pub marked : Event
+marked = Event.steps 0 true
 
 -- after the first pin: defer 7, flush; then unpin, pin, flush; then repin, flush
 abbrev pub flushed : List Event
@@ -202,4 +217,16 @@ table = map ofDistance distances ++
     ∷ record { asks = Question.answer 1 2 (Event.registers ∷ []) 2 (Event.calls 0 Call.Acquire); gives = Reply.isAnswer (Answer.Refused 11) }
     ∷ record { asks = Question.answer 1 2 (Event.registers ∷ []) 2 pin; gives = Reply.isAnswer (Answer.Refused 11) }
     ∷ record { asks = Question.answer 1 2 (Event.registers ∷ []) 1 (Event.calls 0 Call.Acquire); gives = Reply.isAnswer done }
+    -- No. 2: the link of a registering fails in a marked step, and its next is stored again; in the steps of the first pin the mark has no effect
+    ∷ record {
+      asks = Question.answers 1 2 (Event.registers ∷ step ∷ step ∷ marked ∷ step ∷ step ∷ pin ∷ replicate 9 marked);
+      gives = Reply.areAnswers (replicate 5 more ++ done ∷ replicate 9 more ++ done ∷ []);
+    }
+    -- the same registering by the schedule program, whose action 9 is a marked step; 10 is none: `more` five times, `done 0`, `refused 13`
+    ∷ record {
+      asks = Question.output (1 ∷ replicate 23 0 ++ 9 ∷ replicate 23 0 ++ 10 ∷ replicate 7 0);
+      gives = Reply.isBytes (109 ∷ 111 ∷ 114 ∷ 101 ∷ 10 ∷ 109 ∷ 111 ∷ 114 ∷ 101 ∷ 10 ∷ 109 ∷ 111 ∷ 114 ∷ 101 ∷ 10
+          ∷ 109 ∷ 111 ∷ 114 ∷ 101 ∷ 10 ∷ 109 ∷ 111 ∷ 114 ∷ 101 ∷ 10 ∷ 100 ∷ 111 ∷ 110 ∷ 101 ∷ 32 ∷ 48 ∷ 10
+          ∷ 114 ∷ 101 ∷ 102 ∷ 117 ∷ 115 ∷ 101 ∷ 100 ∷ 32 ∷ 49 ∷ 51 ∷ 10 ∷ []);
+    }
     ∷ []

@@ -208,10 +208,12 @@ fn act(
     reclaimer::start(N, M, globals, participants, nodes, held, queued)
 }
 
-// Returns what is tried in a case: of nineteen, ten are steps, one is a step of a participant that there is not, and the rest the calls.
+// Returns what is tried in a case: of nineteen, ten are steps, every other one marked, one is a marked step of a participant that there is not, and
+// the rest the calls.
 fn tried(turn: u64) -> Action {
     let p = turn / 19 % 3;
-    match turn % 19 {
+    let k = turn % 19;
+    match k {
         10 => Action::Register,
         11 => Action::Call(p, Call::Acquire),
         12 => Action::Call(p, Call::Release),
@@ -220,8 +222,8 @@ fn tried(turn: u64) -> Action {
         15 => Action::Call(p, Call::Repin),
         16 => Action::Call(p, Call::Defer(5)),
         17 => Action::Call(p, Call::Flush),
-        18 => Action::Step(3),
-        _ => Action::Step(p),
+        18 => Action::Step(3, true),
+        _ => Action::Step(p, k % 2 == 1),
     }
 }
 

@@ -119,7 +119,18 @@ fn go_on(
         0,
         Call::Pin,
     ));
-    say_answer(reclaimer::step(n, m, globals, participants, nodes, held, queued, 0, freed));
+    say_answer(reclaimer::step(
+        n,
+        m,
+        globals,
+        participants,
+        nodes,
+        held,
+        queued,
+        0,
+        false,
+        freed,
+    ));
     say(b"\n");
 }
 

@@ -26,10 +26,18 @@ pub fn act(
         ⌝ }
 {
     match action {
-        Action::Step(p) => {
-            let i = p as usize;
-            reclaimer::step(n, m, globals, participants, nodes, held, queued, i, freed)
-        }
+        Action::Step(p, marked) => reclaimer::step(
+            n,
+            m,
+            globals,
+            participants,
+            nodes,
+            held,
+            queued,
+            p as usize,
+            marked,
+            freed,
+        ),
         Action::Register => reclaimer::register(n, m, globals, participants, nodes, held, queued),
         Action::Call(p, c) => {
             let i = p as usize;

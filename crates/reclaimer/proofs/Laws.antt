@@ -14,12 +14,13 @@ use Rattle.definition.specs.Calls.{opens}
 use Rattle.definition.specs.Layout.{Lent, lent, sized, tablesOf, lentOf}
 use Rattle.definition.specs.Public.{Check, refusal, unless, refused, Outcome, outcome, kept, given, lending, registerChecks, callChecks, stepChecks, the, enrolled, register, call, step, startLent, registerLent, callLent, stepLent}
 use Rattle.definition.specs.Ranges.{withinLimits, fresh}
-use Rattle.definition.specs.Step.{Out, answerOf, follow, takeStep}
+use Rattle.definition.specs.Rule.{asks, fails}
+use Rattle.definition.specs.Step.{Out, answerOf, follow, ruleAt, takeStep, takeMarked}
 use Rattle.definition.specs.Tables.{Tables}
 use Rattle.definition.specs.declared.Answer.{Answer}
 use Rattle.definition.specs.declared.Call.{Call}
 use Rattle.definition.specs.declared.End.{End}
-use Rattle.definition.proofs.Base.{both}
+use Rattle.definition.proofs.Base.{both, branch-ind}
 use Rattle.ranges.proofs.Laws.{limits-small}
 use Rattle.checks.specs.declared.Checked.{Checked}
 use Rattle.checks.specs.Refusals.{checkedOf, sizedFirst, registerRefusal, callRefusal, stepRefusal}
@@ -124,10 +125,16 @@ module _ (N M : ℕ) (l : Lent) (b : Bool) (e : b ≡ (withinLimits N M && sized
 
 -- ---- a step
 
+-- a step, marked or not, answers as what follows its access does
+step-goes : (marked : Bool) (M p : ℕ) (t : Tables) → Goes (takeMarked marked M p t .answer)
+unfolding takeMarked takeStep follow
+step-goes marked M p t = branch-ind (λ (out : Out). Goes (out .answer)) (fails marked (asks (ruleAt M p t))) (λ _. answer-goes _ _) (λ _. answer-goes _ _)
+
 module _ (N M p : ℕ) (l : Lent) (f : List ℕ) (c : Checked) (e : c ≡ checkedOf (stepRefusal N M l (length f) p)) where
-  pub step-refuses : (x : ℕ) → c ≡ Checked.Refused x → (r : Answer) → r ≡ refusedOf c → record { answer = r; lent = l; freed = f } ≡ stepLent N M l p f
+  pub step-refuses : (marked : Bool) (x : ℕ) → c ≡ Checked.Refused x → (r : Answer) → r ≡ refusedOf c
+      → record { answer = r; lent = l; freed = f } ≡ stepLent N M l p marked f
   unfolding stepLent step stepRefusal
-  step-refuses x is r a = refuses N M l f (stepChecks N M (length f) p) (takeStep M p) c e x is r a
+  step-refuses marked x is r a = refuses N M l f (stepChecks N M (length f) p) (takeMarked marked M p) c e x is r a
 
   pub may-step : c ≡ Checked.Fine → Steps N M p l f
   unfolding maxObjects
@@ -135,10 +142,11 @@ module _ (N M p : ℕ) (l : Lent) (f : List ℕ) (c : Checked) (e : c ≡ checke
       let s = step-fine N M l (length f) p (fine-is _ (sym is ∙ e)) in
       record { sound = s .sound; below = s .below; present = s .supplied; places = s .places-enough }
 
-  pub stepped : c ≡ Checked.Fine → (r : Answer) (l′ : Lent) (f′ : List ℕ) → Leaves N M (takeStep M p (tablesOf N M l)) f r l′ f′
-      → record { answer = r; lent = l′; freed = f′ } ≡ stepLent N M l p f
-  unfolding stepLent step stepRefusal takeStep follow
-  stepped is r l′ f′ h = goes-on N M l f (stepChecks N M (length f) p) (takeStep M p) c e is (answer-goes _ _) r l′ f′ h
+  pub stepped : (marked : Bool) → c ≡ Checked.Fine → (r : Answer) (l′ : Lent) (f′ : List ℕ) → Leaves N M (takeMarked marked M p (tablesOf N M l)) f r l′ f′
+      → record { answer = r; lent = l′; freed = f′ } ≡ stepLent N M l p marked f
+  unfolding stepLent step stepRefusal
+  stepped marked is r l′ f′ h =
+      goes-on N M l f (stepChecks N M (length f) p) (takeMarked marked M p) c e is (step-goes marked M p (tablesOf N M l)) r l′ f′ h
 
 -- ---- a registration
 

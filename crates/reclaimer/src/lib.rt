@@ -306,7 +306,8 @@ pub fn flush(
     )
 }
 
-// Makes one step of participant `p`: one access. Freed tokens go to the front of `freed`.
+// Makes one step of participant `p`: one access. Where the step is marked, a `compare_exchange_weak` fails although the value agrees; no other access
+// looks at the mark. Freed tokens go to the front of `freed`.
 pub fn step(
     n: usize,
     m: usize,
@@ -316,11 +317,12 @@ pub fn step(
     held: &mut [u64],
     queued: &mut [u64],
     p: usize,
+    marked: bool,
     freed: &mut [u64],
 ) -> Answer
     ensures { λ r. ⌜
         outcome r (now (globals .exit)) (now (participants .exit)) (now (nodes .exit)) (now (held .exit)) (now (queued .exit)) (now (freed .exit))
-        ≡ stepLent n m (lent (now (globals .entry)) (now (participants .entry)) (now (nodes .entry)) (now (held .entry)) (now (queued .entry))) p (now (freed .entry))
+        ≡ stepLent n m (lent (now (globals .entry)) (now (participants .entry)) (now (nodes .entry)) (now (held .entry)) (now (queued .entry))) p marked (now (freed .entry))
         ⌝ }
 {
     let places = freed.len();
@@ -328,7 +330,18 @@ pub fn step(
     let Checked::Fine = checked else {
         return refused(checked);
     };
-    take_step(n, m, globals, participants, nodes, held, queued, p, freed)
+    take_step(
+        n,
+        m,
+        globals,
+        participants,
+        nodes,
+        held,
+        queued,
+        p,
+        marked,
+        freed,
+    )
 }
 
 // Returns how many reports a survey of `n` participants gives: none where it is refused.

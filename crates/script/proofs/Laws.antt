@@ -23,7 +23,7 @@ use Rattle.script.specs.Script.{Action, actionFor, eventFor, actionIn, w
 -- an event is the event of its action
 pub event-back : (e : Event) → eventFor (actionFor e) ≡ some e
 unfolding actionFor eventFor
-event-back (Event.steps p) = refl
+event-back (Event.steps p marked) = refl
 event-back Event.registers = refl
 event-back (Event.calls p c) = refl
 
@@ -37,7 +37,7 @@ event-in b = go (whole b) (actionOf (getD b 0 0) (getD b 1 0) (tokenIn b))
     go false e = refl
 
 -- a whole record has 8 bytes and an action that is numbered
-pub whole-is : (b : List ℕ) → whole b ≡ true → (length b ≡ 8) × (leb (getD b 0 0) 8 ≡ true)
+pub whole-is : (b : List ℕ) → whole b ≡ true → (length b ≡ 8) × (leb (getD b 0 0) 9 ≡ true)
 unfolding whole
 whole-is b h =
     let five = both _ _ h .0 in

@@ -10,7 +10,7 @@ use lib.Seq.{take-at}
 use Rattle.definition.specs.Base.{branch}
 use Rattle.definition.specs.Bags.{maxObjects}
 use Rattle.definition.specs.Tables.{Tables}
-use Rattle.definition.specs.Step.{Out, freedBy, answerOf, follow, takeStep}
+use Rattle.definition.specs.Step.{Out, freedBy, answerOf, follow, takeStep, takeMarked}
 use Rattle.definition.specs.Ranges.{withinLimits, maxParticipants, maxNodes}
 use Rattle.definition.specs.Layout.{Lent, sized, tablesOf}
 use Rattle.definition.specs.Public.{Outcome, unless, enrolled, refused, call, register, step, given, lending, stepLent, registerLent, callLent}
@@ -51,8 +51,8 @@ module _ (t : Tables) where
 
   -- every event counts right
   does-counted : (e : Event) → Counted (does 32 128 e t)
-  unfolding does step register call unless enrolled takeStep freedCount
-  does-counted (Event.steps p) = branch-ind Counted _ (λ _. counted-follow p _ _) (λ _. refl)
+  unfolding does step register call unless enrolled takeMarked takeStep freedCount
+  does-counted (Event.steps p marked) = branch-ind Counted _ (λ _. branch-ind Counted _ (λ _. counted-follow p _ _) (λ _. counted-follow p _ _)) (λ _. refl)
   does-counted Event.registers = branch-ind Counted _ (λ _. refl) (λ _. refl)
   does-counted (Event.calls p c) = branch-ind Counted _ (λ _. counted-follow p _ _) (λ _. refl)
 
@@ -83,7 +83,7 @@ module _ (l : Lent) (places : List ℕ) (fits : sized 32 128 l ≡ true) (room :
 
   acts-event : (e : Event) → acts 32 128 l places (actionFor e) ≡ back l places (does 32 128 e tables)
   unfolding acts actionFor does stepLent registerLent callLent
-  acts-event (Event.steps p) = rw (lending-back places (step 32 128 (length places) p), room)
+  acts-event (Event.steps p marked) = rw (lending-back places (step 32 128 marked (length places) p), room)
   acts-event Event.registers = rw (lending-back [] (register 32 128)) (keeping-given l places _ _ (register-none tables))
   acts-event (Event.calls p c) = rw (lending-back [] (call 32 128 p c)) (keeping-given l places _ _ (call-none tables p c))
 

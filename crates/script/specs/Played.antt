@@ -14,7 +14,7 @@ keeping places x = record { answer = x .answer; lent = x .lent; freed = places }
 
 -- an action on the lists, with a list for freed tokens; a broken record is refused with 13 and changes nothing
 unfoldable pub acts : (N M : ℕ) → Lent → List ℕ → Action → Outcome
-acts N M l places (Action.Step p) = stepLent N M l p places
+acts N M l places (Action.Step p marked) = stepLent N M l p marked places
 acts N M l places Action.Register = keeping places (registerLent N M l)
 acts N M l places (Action.Call p c) = keeping places (callLent N M l p c)
 acts N M l places Action.Broken = record { answer = Answer.Refused 13; lent = l; freed = places }

@@ -14,20 +14,20 @@ pub use Rattle.script.specs.declared.Action.{Action}
 
 -- an event as an action
 unfoldable pub actionFor : Event → Action
-actionFor (Event.steps p) = Action.Step p
+actionFor (Event.steps p marked) = Action.Step p marked
 actionFor Event.registers = Action.Register
 actionFor (Event.calls p c) = Action.Call p c
 
 -- and back: a broken record is no event
 unfoldable pub eventFor : Action → Option Event
-eventFor (Action.Step p) = some (Event.steps p)
+eventFor (Action.Step p marked) = some (Event.steps p marked)
 eventFor Action.Register = some Event.registers
 eventFor (Action.Call p c) = some (Event.calls p c)
 eventFor Action.Broken = none
 
--- the action that three numbers name; none is numbered above 8
+-- the action that three numbers name; none is numbered above 9
 unfoldable pub named : (action participant token : ℕ) → Action
-named a p t = branch (leb a 8) (actionFor (actionOf a p t)) Action.Broken
+named a p t = branch (leb a 9) (actionFor (actionOf a p t)) Action.Broken
 
 -- what a record says
 unfoldable pub actionIn : List ℕ → Action

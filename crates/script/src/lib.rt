@@ -15,9 +15,9 @@ ghost use Rattle.script.specs.Script.{named, actionIn, freedCount, Puts,
 use definition::Answer;
 use definition::Call;
 
-// What a record asks for: a step of a participant, a registering, a call on a participant, or nothing, where the record is broken.
+// What a record asks for: a step of a participant, marked or not, a registering, a call on a participant, or nothing, where the record is broken.
 pub enum Action {
-    Step(u64),
+    Step(u64, bool),
     Register,
     Call(u64, Call),
     Broken,
@@ -34,7 +34,7 @@ pub fn action_of(bytes: &[u8]) -> Action
     }
 }
 
-// Returns `true` if the record has 8 bytes that keep the rules: an action of 0 to 8, two zero bytes, a token for a defer only, and
+// Returns `true` if the record has 8 bytes that keep the rules: an action of 0 to 9, two zero bytes, a token for a defer only, and
 // participant 0 for a register.
 fn is_whole(bytes: &[u8]) -> bool
     ensures { λ r. ⌜ r ≡ whole (now (bytes .entry)) ⌝ }
@@ -43,7 +43,7 @@ fn is_whole(bytes: &[u8]) -> bool
         return false;
     }
     let action = bytes[0];
-    if action > 8 {
+    if action > 9 {
         return false;
     }
     if bytes[2] != 0 {
@@ -66,12 +66,12 @@ fn token_in(bytes: &[u8]) -> u64
     wide(bytes[4]) + 256 * (wide(bytes[5]) + 256 * high)
 }
 
-// Returns the action of that number, on that participant and with that token.
+// Returns the action of that number, on that participant and with that token: document 01's nine, and 9, a marked step (document 02, No. 2).
 fn name(action: u8, participant: u64, token: u64) -> Action
     ensures { λ r. ⌜ r ≡ named action participant token ⌝ }
 {
     match action {
-        0 => Action::Step(participant),
+        0 => Action::Step(participant, false),
         1 => Action::Register,
         2 => Action::Call(participant, Call::Acquire),
         3 => Action::Call(participant, Call::Release),
@@ -80,6 +80,7 @@ fn name(action: u8, participant: u64, token: u64) -> Action
         6 => Action::Call(participant, Call::Repin),
         7 => Action::Call(participant, Call::Defer(token)),
         8 => Action::Call(participant, Call::Flush),
+        9 => Action::Step(participant, true),
         _ => Action::Broken,
     }
 }

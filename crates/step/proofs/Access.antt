@@ -1,22 +1,23 @@
 -- The shared words of tables in range: what an access reads there, and where its word stands in the lists. Assumes nothing.
 use mathlib.Core.Path.{_≡_, refl}
-use mathlib.Core.Bool.{true, _&&_}
+use mathlib.Core.Bool.{Bool, true, false, _&&_}
 use Prim.Native.Nat.{ℕ, _/_, _%_, _≤_}
 use native.Mathlib.Omega.{arith}
 use lib.Dec.{eqb, leb}
 use borrow.Author.Tests.{leb-true}
-use Rattle.definition.specs.Base.{all}
+use Rattle.definition.specs.Base.{all, branch}
 use Rattle.definition.specs.Tables.{Shared, read}
 use Rattle.definition.specs.Layout.{Lent}
 use Rattle.definition.specs.Ranges.{sharedIn, entryPointerIn, headPointerIn, nodePointerIn, endPointerIn}
-use Rattle.definition.specs.Rule.{Rule, asks, follows, sees}
+use Rattle.definition.specs.Rule.{Rule, asks, follows, sees, missed}
 use Rattle.definition.specs.declared.Word.{Word}
 use Rattle.definition.specs.declared.Ask.{Ask}
+use Rattle.definition.specs.declared.Seen.{Seen}
 use Rattle.definition.proofs.Base.{both, all-at}
 use Rattle.definition.proofs.Lists.{Sized}
 use Rattle.definition.proofs.Within.{WordIn, AskIn}
 use Rattle.definition.proofs.Kept.{askWord, ValueIn}
-use Rattle.words.specs.Words.{named, wordIn}
+use Rattle.words.specs.Words.{named, wordIn, seenBy}
 
 -- what stands in a shared word within the tables
 end-in : (N M w : ℕ) → endPointerIn N M w ≡ true → (1 ≤ w / 2) × (w / 2 ≤ M)
@@ -95,12 +96,18 @@ ask-word N M (Ask.Exchange w e v) i = i
 ask-word N M (Ask.ExchangeWeak w e v) i = i
 ask-word N M (Ask.FetchOr w) i = i
 
+-- an access that fails for no reason sees the value too
+value-seen : (b : Bool) (seen : Seen) → branch b (missed seen) seen .value ≡ seen .value
+unfolding branch missed
+value-seen true seen = refl
+value-seen false seen = refl
+
 -- what follows is what would follow if a store too saw its word
-pub follows-seen : (r : Rule) (s : Shared)
-    → follows r (sees (asks r) s) ≡ follows r (record { value = read (askWord (asks r)) s; won = sees (asks r) s .won })
+pub follows-seen : (marked : Bool) (r : Rule) (s : Shared)
+    → follows r (seenBy marked (asks r) s) ≡ follows r (record { value = read (askWord (asks r)) s; won = seenBy marked (asks r) s .won })
 unfolding follows asks sees askWord
-follows-seen (Rule.load w f) s = refl
-follows-seen (Rule.store w v a) s = refl
-follows-seen (Rule.exchange w e v won lost) s = refl
-follows-seen (Rule.exchangeWeak w e v won lost) s = refl
-follows-seen (Rule.fetchOr w a) s = refl
+follows-seen marked (Rule.load w f) s = simp value-seen
+follows-seen marked (Rule.store w v a) s = refl
+follows-seen marked (Rule.exchange w e v won lost) s = simp value-seen
+follows-seen marked (Rule.exchangeWeak w e v won lost) s = simp value-seen
+follows-seen marked (Rule.fetchOr w a) s = refl

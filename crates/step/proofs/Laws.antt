@@ -8,17 +8,17 @@ use native.Mathlib.Nat.{le-refl}
 use lib.Dec.{eqb}
 use lib.ListN.{length, getD}
 use borrow.Author.Tests.{eq-eqb}
-use Rattle.definition.specs.Base.{Tab, count, least}
+use Rattle.definition.specs.Base.{Tab, branch, count, least}
 use Rattle.definition.specs.Bags.{SealedBag}
 use Rattle.definition.specs.Links.{index, nodeAt}
 use Rattle.definition.specs.Codec.{participantOf}
-use Rattle.definition.specs.Tables.{Tables}
+use Rattle.definition.specs.Tables.{Tables, withShared}
 use Rattle.definition.specs.Layout.{Lent, cell, globalWords, participantWords, recordAt, sharedFrom, bagFrom, bits, nodeBits, tablesOf}
 use Rattle.definition.specs.Ranges.{bitWords, bagIn, placeIn}
-use Rattle.definition.specs.Rule.{Rule, asks, follows, sees}
+use Rattle.definition.specs.Rule.{Rule, asks, follows, sees, leaves, fails, missed}
 use Rattle.definition.specs.Internal.{rule}
 use Rattle.definition.specs.Public.{takesNode, missing}
-use Rattle.definition.specs.Step.{follow, ruleAt, takeStep}
+use Rattle.definition.specs.Step.{follow, ruleAt, takeStep, takeMarked}
 use Rattle.definition.specs.Types.{slot, node}
 use Rattle.definition.specs.declared.Node.{Node}
 use Rattle.definition.specs.declared.Participant.{Participant}
@@ -36,8 +36,8 @@ use Rattle.bags.specs.Bags.{bagSeal}
 use Rattle.bags.proofs.Nodes.{bag-epoch}
 use Rattle.internal.specs.Fits.{PlaceFits}
 use Rattle.internal.proofs.Laws.{place-fits, one-seal-at}
-use Rattle.words.specs.Words.{named, wordIn, leftLent}
-use Rattle.words.proofs.Laws.{length-left-globals, length-left-participants, length-left-nodes, kept-globals, kept-records, kept-bags, left-tables}
+use Rattle.words.specs.Words.{named, wordIn, leftLent, seenBy}
+use Rattle.words.proofs.Laws.{length-left-globals, length-left-participants, length-left-nodes, kept-globals, kept-records, kept-bags, left-tables, comesTo, comes-in}
 use Rattle.ranges.specs.Sound.{Sound}
 use Rattle.ranges.proofs.Laws.{limits-small}
 use Rattle.ranges.proofs.Facts.{Facts, facts, record-facts, record-place, bag-len-small}
@@ -46,7 +46,7 @@ use Rattle.step.proofs.Room.{RoomFor, Roomy, work-room, spare-unused}
 use Rattle.step.proofs.Carry.{Carries, freed-in}
 
 module _ (N M p : ℕ) (l : Lent) (s : Sound N M l) (hp : p < N) (present : missing N M p (tablesOf N M l) ≡ false) where
-  -- the tables, the participant, its rule, its access, what it sees and what follows
+  -- the tables, the participant, its rule and its access
   abbrev pub tables : Tables
   tables = tablesOf N M l
 
@@ -64,12 +64,6 @@ module _ (N M p : ℕ) (l : Lent) (s : Sound N M l) (hp : p < N) (present : miss
 
   abbrev pub ask : Ask
   ask = asks theRule
-
-  abbrev pub after : After
-  after = follows theRule (sees ask (tables .shared))
-
-  abbrev pub left : Lent
-  left = leftLent ask l
 
   known : Facts N M tables
   known = facts N M tables (s .range)
@@ -104,60 +98,15 @@ module _ (N M p : ℕ) (l : Lent) (s : Sound N M l) (hp : p < N) (present : miss
           taken e z = false≢true (sym present ∙ rw (e, z) refl)
       go false e = rw (spare-unused (slot p) spare (node 0) sealed own (own .place) e) (h (node 0) (let m = small .1 .1 .0 in omega arith))
 
-  work-in : WorkIn N M (after .work)
-  unfolding AfterIn
-  work-in = with-spare (λ r. AfterIn N M (follows r (sees (asks r) (tables .shared)))) (λ x lt. follows-in N M p x sealed own (own .place) _ lt place-fact)
-
-  place-after : PlaceIn N M (after .participant .place)
-  unfolding PlacedIn
-  place-after = with-spare (λ r. PlacedIn N M (follows r (sees (asks r) (tables .shared)))) (λ x lt.
-      let r : Rule = rule (slot p) x sealed own (own .place) in
-      rw (follows-seen r (tables .shared))
-      (place-kept N M p x sealed own (own .place) _ hp lt place-fact
-      (read-in N M (tables .shared) (known .shared) (askWord (asks r)) (ask-word N M (asks r) (asks-in N M p x sealed own (own .place) hp place-fact)))))
-
   held-small : own .held ≤ 64
   unfolding participantOf
   held-small = bag-len-small N M (tables .own p .held) (tables .held p) (known .held p hp)
-
-  room-after : RoomFor (own .held) (after .work)
-  unfolding Roomy
-  room-after = work-room (own .held) (slot p) spare sealed own (own .place) _ refl
-
-  share-after : after .participant .share ≤ own .share
-  unfolding ShareLe
-  share-after = share-falls (own .share) (slot p) spare sealed own (own .place) _ (le-refl (own .share))
-
-  -- the lists after the access are as long as they were
-  left-sized : Sized N M left
-  left-sized = record {
-    globals = length-left-globals ask (l .globals) (l .participants) (l .nodes) asked-in ∙ size .globals;
-    participants = length-left-participants ask (l .globals) (l .participants) (l .nodes) asked-in ∙ size .participants;
-    nodes = length-left-nodes ask (l .globals) (l .participants) (l .nodes) asked-in ∙ size .nodes;
-    held = size .held;
-    queued = size .queued;
-  }
 
   bags-known : (x : ℕ) → x < M → bagIn N M (bagFrom (l .nodes) (l .queued) x .len) (bagFrom (l .nodes) (l .queued) x .deferreds) ≡ true
   unfolding tablesOf
   bags-known = known .bags
 
-  -- the access leaves the participant's record as it was
-  own-kept : recordAt (cell participantWords (left .participants) p) ≡ recordAt (cell participantWords (l .participants) p)
-  own-kept = ap (λ (f : Tab Record). f p) (kept-records ask (l .globals) (l .participants) (l .nodes) asked-in)
-
-  held-left : recordAt (cell participantWords (left .participants) p) .held ≡ own .held
-  unfolding tablesOf participantOf
-  held-left = ap (λ (r : Record). r .held) own-kept
-
-  share-left : recordAt (cell participantWords (left .participants) p) .share ≡ own .share
-  unfolding tablesOf participantOf
-  share-left = ap (λ (r : Record). r .share) own-kept
-
-  -- and the set-aside total, which covers the participant's share
-  total-left : getD (left .globals) 4 0 ≡ getD (l .globals) 4 0
-  total-left = kept-globals ask (l .globals) (l .participants) (l .nodes) asked-in 4 (omega arith)
-
+  -- the set-aside total covers the participant's share
   total-known : own .share ≤ getD (l .globals) 4 0
   unfolding tablesOf participantOf
   total-known = record-facts N M (tables .aside) (tables .own p) (known .records p hp) .share
@@ -166,27 +115,93 @@ module _ (N M p : ℕ) (l : Lent) (s : Sound N M l) (hp : p < N) (present : miss
   unfolding tablesOf
   total-small = known .aside
 
-  -- what follows may be carried out
-  pub carries : Carries N M p left own after
-  carries = record {
-    few = (small .1 .0, small .1 .1 .1);
-    size = left-sized;
-    below = hp;
-    held-is = held-left;
-    share-is = share-left;
-    freed = freed-in N M left (after .work) work-in (λ x lt. rw (kept-bags ask (l .globals) (l .participants) (l .nodes) asked-in (l .queued)) (bags-known x lt));
-    work-in = work-in;
-    place-in = place-after;
-    room = room-after;
-    held-small = held-small;
-    covers = rw total-left total-known;
-    total = rw total-left (let m = small .1 .1 .1 in omega (arith, total-known, total-small, share-after, m));
-  }
+  module _ (marked : Bool) where
+    -- what follows on what the access sees, marked or not; what it comes to, and the lists that it leaves
+    abbrev pub after : After
+    after = follows theRule (seenBy marked ask (tables .shared))
 
-  -- the definition's step is what follows on the tables that the access left
-  pub step-is : follow p after (tablesOf N M left) ≡ takeStep M p tables
-  unfolding takeStep ruleAt
-  step-is = ap (follow p after) (left-tables N M ask l asked-in)
+    abbrev pub effect : Ask
+    effect = comesTo marked ask
+
+    abbrev pub left : Lent
+    left = leftLent effect l
+
+    effect-in : wordIn (named effect) (l .globals) (l .participants) (l .nodes)
+    effect-in = comes-in marked ask (l .globals) (l .participants) (l .nodes) asked-in
+
+    work-in : WorkIn N M (after .work)
+    unfolding AfterIn
+    work-in = with-spare (λ r. AfterIn N M (follows r (seenBy marked (asks r) (tables .shared)))) (λ x lt. follows-in N M p x sealed own (own .place) _ lt place-fact)
+
+    place-after : PlaceIn N M (after .participant .place)
+    unfolding PlacedIn
+    place-after = with-spare (λ r. PlacedIn N M (follows r (seenBy marked (asks r) (tables .shared)))) (λ x lt.
+        let r : Rule = rule (slot p) x sealed own (own .place) in
+        rw (follows-seen marked r (tables .shared))
+        (place-kept N M p x sealed own (own .place) _ hp lt place-fact
+        (read-in N M (tables .shared) (known .shared) (askWord (asks r)) (ask-word N M (asks r) (asks-in N M p x sealed own (own .place) hp place-fact)))))
+
+    room-after : RoomFor (own .held) (after .work)
+    unfolding Roomy
+    room-after = work-room (own .held) (slot p) spare sealed own (own .place) _ refl
+
+    share-after : after .participant .share ≤ own .share
+    unfolding ShareLe
+    share-after = share-falls (own .share) (slot p) spare sealed own (own .place) _ (le-refl (own .share))
+
+    -- the lists after the access are as long as they were
+    left-sized : Sized N M left
+    left-sized = record {
+      globals = length-left-globals effect (l .globals) (l .participants) (l .nodes) effect-in ∙ size .globals;
+      participants = length-left-participants effect (l .globals) (l .participants) (l .nodes) effect-in ∙ size .participants;
+      nodes = length-left-nodes effect (l .globals) (l .participants) (l .nodes) effect-in ∙ size .nodes;
+      held = size .held;
+      queued = size .queued;
+    }
+
+    -- the access leaves the participant's record as it was
+    own-kept : recordAt (cell participantWords (left .participants) p) ≡ recordAt (cell participantWords (l .participants) p)
+    own-kept = ap (λ (f : Tab Record). f p) (kept-records effect (l .globals) (l .participants) (l .nodes) effect-in)
+
+    held-left : recordAt (cell participantWords (left .participants) p) .held ≡ own .held
+    unfolding tablesOf participantOf
+    held-left = ap (λ (r : Record). r .held) own-kept
+
+    share-left : recordAt (cell participantWords (left .participants) p) .share ≡ own .share
+    unfolding tablesOf participantOf
+    share-left = ap (λ (r : Record). r .share) own-kept
+
+    -- and the set-aside total
+    total-left : getD (left .globals) 4 0 ≡ getD (l .globals) 4 0
+    total-left = kept-globals effect (l .globals) (l .participants) (l .nodes) effect-in 4 (omega arith)
+
+    -- what follows may be carried out
+    pub carries : Carries N M p left own after
+    carries = record {
+      few = (small .1 .0, small .1 .1 .1);
+      size = left-sized;
+      below = hp;
+      held-is = held-left;
+      share-is = share-left;
+      freed = freed-in N M left (after .work) work-in (λ x lt. rw (kept-bags effect (l .globals) (l .participants) (l .nodes) effect-in (l .queued)) (bags-known x lt));
+      work-in = work-in;
+      place-in = place-after;
+      room = room-after;
+      held-small = held-small;
+      covers = rw total-left total-known;
+      total = rw total-left (let m = small .1 .1 .1 in omega (arith, total-known, total-small, share-after, m));
+    }
+
+    -- the definition's step is what follows on the tables that the access left
+    pub step-is : follow p after (tablesOf N M left) ≡ takeMarked marked M p tables
+    unfolding takeMarked takeStep ruleAt comesTo leaves branch
+    step-is = ap (follow p after) (left-tables N M effect l effect-in) ∙ either (fails marked ask)
+      where
+        either : (b : Bool) → follow p (follows theRule (branch b (missed (sees ask (tables .shared))) (sees ask (tables .shared))))
+            (withShared (leaves (branch b (Ask.Load (named ask)) ask) (tables .shared)) tables)
+            ≡ branch b (follow p (follows theRule (missed (sees ask (tables .shared)))) tables) (takeStep M p tables)
+        either true = refl
+        either false = refl
 
   -- ---- the values that the code computes are these
 
@@ -209,22 +224,23 @@ module _ (N M p : ℕ) (l : Lent) (s : Sound N M l) (hp : p < N) (present : miss
     pub ask-is : (x : Ask) → ((y : Node) (z : Node → ℕ) → x ≡ asks (rule (slot p) y z o (o .place))) → x ≡ ask
     ask-is x h = h spare sealed ∙ rw own-loaded refl
 
-    seal-is : (seen : Seen) (seal : ℕ) → seal ≡ bagSeal (left .nodes) (index (seen .value)) → seal ≡ sealed (nodeAt (seen .value))
+    seal-is : (marked : Bool) (seen : Seen) (seal : ℕ) → seal ≡ bagSeal (left marked .nodes) (index (seen .value)) → seal ≡ sealed (nodeAt (seen .value))
     unfolding tablesOf nodeAt
-    seal-is seen seal el =
-        el ∙ sym (bag-epoch (left .nodes) (l .queued) (index (seen .value)))
-        ∙ ap (λ (b : Tab SealedBag). b (index (seen .value)) .epoch) (kept-bags ask (l .globals) (l .participants) (l .nodes) asked-in (l .queued))
+    seal-is marked seen seal el =
+        el ∙ sym (bag-epoch (left marked .nodes) (l .queued) (index (seen .value)))
+        ∙ ap (λ (b : Tab SealedBag). b (index (seen .value)) .epoch) (kept-bags (effect marked) (l .globals) (l .participants) (l .nodes) (effect-in marked) (l .queued))
 
     free-is : (at k free : ℕ) → at ≡ globalWords + bitWords N → k ≡ bitWords M → free ≡ least M (bits k (wordsAt (l .globals) at)) → free ≡ least M (tables .nodeFree)
     unfolding tablesOf nodeBits
     free-is at k free ea ek ef = ef ∙ rw (ea, ek) refl
 
-    seen-is : (seen : Seen) → seen ≡ sees ask (sharedFrom (l .globals) (l .participants) (l .nodes)) → seen ≡ sees ask (tables .shared)
+    seen-is : (marked : Bool) (seen : Seen) → seen ≡ seenBy marked ask (sharedFrom (l .globals) (l .participants) (l .nodes)) → seen ≡ seenBy marked ask (tables .shared)
     unfolding tablesOf
-    seen-is seen es = es
+    seen-is marked seen es = es
 
-    pub after-is : (at k free : ℕ) (seen : Seen) (seal : ℕ) (a : After) → at ≡ globalWords + bitWords N → k ≡ bitWords M
-        → free ≡ least M (bits k (wordsAt (l .globals) at)) → seen ≡ sees ask (sharedFrom (l .globals) (l .participants) (l .nodes))
-        → seal ≡ bagSeal (left .nodes) (index (seen .value)) → a ≡ follows (rule (slot p) (node free) (λ n. seal) o (o .place)) seen → a ≡ after
-    after-is at k free seen seal a ea ek ef es el e =
-        e ∙ rw (own-loaded, free-is at k free ea ek ef, seal-is seen seal el) (sym (one-seal-at (slot p) spare sealed own (own .place) seen)) ∙ ap (follows theRule) (seen-is seen es)
+    pub after-is : (marked : Bool) (at k free : ℕ) (seen : Seen) (seal : ℕ) (a : After) → at ≡ globalWords + bitWords N → k ≡ bitWords M
+        → free ≡ least M (bits k (wordsAt (l .globals) at)) → seen ≡ seenBy marked ask (sharedFrom (l .globals) (l .participants) (l .nodes))
+        → seal ≡ bagSeal (left marked .nodes) (index (seen .value)) → a ≡ follows (rule (slot p) (node free) (λ n. seal) o (o .place)) seen → a ≡ after marked
+    after-is marked at k free seen seal a ea ek ef es el e =
+        e ∙ rw (own-loaded, free-is at k free ea ek ef, seal-is marked seen seal el) (sym (one-seal-at (slot p) spare sealed own (own .place) seen))
+        ∙ ap (follows theRule) (seen-is marked seen es)

@@ -1,5 +1,5 @@
 // A step on the lent lists, once every check is passed: the one access of the place at which the participant stands, and what
-// follows it. The definition's `takeStep` (specs/Step of `definition`), whose tables the lists hold afterwards.
+// follows it. The definition's `takeMarked` (specs/Step of `definition`), whose tables the lists hold afterwards.
 //
 // The code is a chain of calls; that each of them may be made, and that together they are the definition's step, is proofs/Laws.
 use bits::bit_words;
@@ -19,7 +19,7 @@ ghost use Prim.Native.Nat.{_*_};
 ghost use lib.ListN.{length};
 ghost use Rattle.definition.specs.Layout.{lent, tablesOf};
 ghost use Rattle.definition.specs.Links.{index};
-ghost use Rattle.definition.specs.Step.{takeStep};
+ghost use Rattle.definition.specs.Step.{takeMarked};
 ghost use Rattle.bags.specs.Bags.{bagSeal};
 ghost use Rattle.step.specs.Steps.{Steps, Leaves};
 
@@ -37,7 +37,7 @@ fn seal_of(nodes: &[u64], m: usize, value: u64) -> u64
     }
 }
 
-// Makes the step of participant `p`, for `n` participants and `m` nodes. Freed tokens go to the front of `freed`.
+// Makes the step of participant `p`, marked or not, for `n` participants and `m` nodes. Freed tokens go to the front of `freed`.
 pub fn take_step(
     n: usize,
     m: usize,
@@ -47,11 +47,12 @@ pub fn take_step(
     held: &mut [u64],
     queued: &mut [u64],
     p: usize,
+    marked: bool,
     freed: &mut [u64],
 ) -> Answer
     requires { ⌜ Steps n m p (lent (now globals) (now participants) (now nodes) (now held) (now queued)) (now freed) ⌝ }
     ensures { λ r. ⌜
-        Leaves n m (takeStep m p (tablesOf n m (lent (now (globals .entry)) (now (participants .entry)) (now (nodes .entry)) (now (held .entry)) (now (queued .entry)))))
+        Leaves n m (takeMarked marked m p (tablesOf n m (lent (now (globals .entry)) (now (participants .entry)) (now (nodes .entry)) (now (held .entry)) (now (queued .entry)))))
         (now (freed .entry)) r (lent (now (globals .exit)) (now (participants .exit)) (now (nodes .exit)) (now (held .exit)) (now (queued .exit))) (now (freed .exit))
         ⌝ }
 {
@@ -59,11 +60,10 @@ pub fn take_step(
     let at = node_bits_at(n);
     let k = bit_words(m);
     let spare = first_free(globals, at, k, m);
-    let me = Slot(p as u64);
-    let ask = asks_at(me, o);
-    let seen = perform(globals, participants, nodes, ask);
+    let ask = asks_at(Slot(p as u64), o);
+    let seen = perform(globals, participants, nodes, ask, marked);
     let seal = seal_of(nodes, m, seen.value);
-    let a = follows_at(me, Node(spare as u64), seal, o, seen);
+    let a = follows_at(Slot(p as u64), Node(spare as u64), seal, o, seen);
     follow(
         n,
         globals,

@@ -3,12 +3,12 @@
 -- nor for a missing node. And a registering, seen on the machine. Leans on Stored and Roomy. Assumes nothing.
 use mathlib.Core.Path.{_≡_, refl, ap, sym, _∙_}
 use mathlib.Core.Logic.{_≢_}
-use mathlib.Core.Bool.{Bool, true, false, _&&_, _||_, not, true≢false, false≢true}
+use mathlib.Core.Bool.{Bool, true, false, _&&_, not, true≢false, false≢true}
 use mathlib.Core.List.{List, [], _∷_}
 use Prim.Native.Nat.{ℕ, _+_, _%_, _^_, _<_}
 use native.Mathlib.Omega.{arith}
-use lib.Dec.{eqb, ltb, leb}
-use borrow.Author.Tests.{eqb-true, eqb-false, ltb-false, leb-false}
+use lib.Dec.{eqb, ltb}
+use borrow.Author.Tests.{eqb-true, eqb-false, ltb-false}
 use Rattle.epoch.specs.Epoch.{starting}
 use Rattle.definition.specs.Base.{branch, put, count, least, listed}
 use Rattle.definition.specs.Links.{null, isTagged}
@@ -17,11 +17,13 @@ use Rattle.definition.specs.Tables.{Tables, write}
 use Rattle.definition.specs.Codec.{recordOf, participantOf}
 use Rattle.definition.specs.Calls.{lacks, countFull, tokenAbove, needs, opens}
 use Rattle.definition.specs.Ranges.{isRest}
-use Rattle.definition.specs.Step.{Out, answerOf, follow, takeStep}
+use Rattle.definition.specs.Rule.{asks, fails}
+use Rattle.definition.specs.Step.{Out, answerOf, follow, ruleAt, takeStep, takeMarked}
 use Rattle.definition.specs.Public as Public
 use Rattle.definition.specs.Public.{Check, check, refusal, refused, unless, the, newParticipant, enrolled, damaged, absent, missing, callChecks, registerChecks, stepChecks}
 use Rattle.definition.proofs.Base.{branch-ind, same?, put-same, put-other, count-least, least-marked}
 use Rattle.definition.proofs.Codec.{participant-back}
+use Rattle.definition.proofs.Refusals.{passes, not-false, parts, here}
 use Rattle.theorems.proofs.Machine.{view, map-put}
 use Rattle.theorems.proofs.Ghost.{Ghost, G}
 use Rattle.theorems.proofs.Inv.{Inv, Steps, Calls, registered}
@@ -32,12 +34,6 @@ use Rattle.theorems.proofs.Types.{Place, Participant, Word, End, After,
 
 -- ---- checks, one by one
 
--- where nothing is refused, the first check does not hold, nor any after it
-passes : (n : ℕ) (b : Bool) (l : List Check) → n ≢ 0 → refusal (check n b ∷ l) ≡ 0 → (b ≡ false) × (refusal l ≡ 0)
-unfolding refusal branch
-passes n true l ne h = absurd (ne h)
-passes n false l ne h = (refl, h)
-
 -- the check whose number is what it looks at
 passes-lack : (n : ℕ) (l : List Check) → refusal (check n (not (eqb n 0)) ∷ l) ≡ 0 → (n ≡ 0) × (refusal l ≡ 0)
 unfolding refusal branch
@@ -47,17 +43,7 @@ passes-lack n l h = by (eqb n 0) refl h
     by true e z = (eqb-true n 0 e, z)
     by false e z = absurd (eqb-false n 0 e z)
 
--- three tests, none of which is true
-none-of : (a b c : Bool) → (a || b || c) ≡ false → (a ≡ false) × ((b ≡ false) × (c ≡ false))
-none-of true b c h = absurd (true≢false h)
-none-of false true c h = absurd (true≢false h)
-none-of false false c h = (refl, (refl, h))
-
--- negations
-not-false : (b : Bool) → not b ≡ false → b ≡ true
-not-false true h = refl
-not-false false h = absurd (true≢false h)
-
+-- a negation
 not-true : (b : Bool) → not b ≡ true → b ≡ false
 not-true true h = absurd (false≢true h)
 not-true false h = refl
@@ -77,17 +63,6 @@ rest-is pl e = rw e refl
 untagged-is : (w : ℕ) → isTagged w ≡ false → w % 2 ≡ 0
 unfolding isTagged
 untagged-is w h = omega (arith, eqb-false (w % 2) 1 h)
-
--- a slot that is not absent
-module _ (N M p : ℕ) (t : Tables) (h : absent N M p t ≡ false) where
-  -- what that says
-  parts : (leb N p ≡ false) × ((t .slotFree p ≡ false) × ((isTagged (t .shared .entryNext p) && not (Public.running p t)) ≡ false))
-  unfolding absent
-  parts = none-of (leb N p) (t .slotFree p) (isTagged (t .shared .entryNext p) && not (Public.running p t)) h
-
-  -- it is a slot of the table
-  here : p < N
-  here = leb-false N p (parts .0)
 
 -- ---- what is not refused is a move
 
@@ -237,9 +212,10 @@ unfolding follow
 follow-answers p r a t = answers (a .end) _ r
 
 -- refusal 1 never occurs: of a step, of a call, of a registering
-pub step-never-1 : (N M places p : ℕ) (t : Tables) (g : Ghost) → Inv N M (view t) g → Stored N M t → Public.step N M places p t .answer ≢ Answer.Refused 1
-unfolding Public.step takeStep
-step-never-1 N M places p t g inv st = unless-never (stepChecks N M places p t) t _ 1 (step-checks N M t g inv st places p) (follow-answers p 1 _ _)
+pub step-never-1 : (N M : ℕ) (marked : Bool) (places p : ℕ) (t : Tables) (g : Ghost) → Inv N M (view t) g → Stored N M t → Public.step N M marked places p t .answer ≢ Answer.Refused 1
+unfolding Public.step takeMarked takeStep
+step-never-1 N M marked places p t g inv st = unless-never (stepChecks N M places p t) t _ 1 (step-checks N M t g inv st places p)
+    (branch-ind (λ (o : Out). o .answer ≢ Answer.Refused 1) (fails marked (asks (ruleAt M p t))) (λ _. follow-answers p 1 _ _) (λ _. follow-answers p 1 _ _))
 
 -- of a call
 pub call-never-1 : (N M p : ℕ) (c : Call) (t : Tables) (g : Ghost) → Inv N M (view t) g → Stored N M t → Public.call N M p c t .answer ≢ Answer.Refused 1

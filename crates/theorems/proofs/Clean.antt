@@ -22,6 +22,7 @@ use Rattle.definition.specs.Calls.{opens}
 use Rattle.definition.specs.Ranges.{fresh}
 use Rattle.definition.specs.Step.{Out, putItem, sealInto, inBag, freeBag, settle, follow, ruleAt, takeStep}
 use Rattle.definition.specs.Public.{the, newParticipant, enrolled}
+use Rattle.definition.specs.Marks.{back}
 use Rattle.definition.proofs.Base.{branch-ind, put-ind, put-same, put-other, both}
 use Rattle.definition.proofs.Opens.{opens-in}
 use Rattle.definition.proofs.Within.{ItemIn, WordIn, AskIn, WorkIn, AfterIn, asks-in}
@@ -34,7 +35,7 @@ use Rattle.theorems.proofs.Inv.{Inv, Steps, Calls}
 use Rattle.theorems.proofs.Stored.{free-slots-in, free-nodes-in, step-work}
 use Rattle.theorems.proofs.Runs.{Happens, happens, Sound, sound-does, epoch-does, sound-fresh, fresh-epoch}
 use Rattle.theorems.proofs.Back.{blank, CleanShared, Clean}
-use Rattle.theorems.proofs.Types.{Record, Word, Ask, Work, After, Call}
+use Rattle.theorems.proofs.Types.{Ptr, Record, Word, Ask, Work, After, Call}
 
 -- a change within the table leaves what stands beyond it
 beyond : {A : Type 0} (n : ℕ) (t : Tab A) (i j : ℕ) (v : A) → i < n → n ≤ j → put t i v j ≡ t j
@@ -194,6 +195,20 @@ module _ (N M : ℕ) (t : Tables) (g : Ghost) (inv : Inv N M (view t) g) (clean 
   call-clean p c calls le = follow-clean N M p (opens N c (the p t)) t clean (calls .here) (inv .ranged .held p (calls .here) .0) le (inv .ranged .bags)
       (begins-fits (t .own p .held) c _ refl) (opens-in N M c (the p t) (calls .token) .1)
 
+  -- a marked step that fails
+  back-clean : (p : ℕ) (next : Ptr) → p < N → Clean N M (back p next t .tables)
+  back-clean p next hp = record {
+    shared = clean .shared;
+    own = λ i h. beyond N (t .own) p i _ hp h ∙ clean .own i h;
+    held = clean .held;
+    heldEnd = clean .heldEnd;
+    seals = clean .seals;
+    queued = clean .queued;
+    queuedEnd = clean .queuedEnd;
+    slotFree = clean .slotFree;
+    nodeFree = clean .nodeFree;
+  }
+
   -- a registering
   register-clean : (p : ℕ) → p < N → Clean N M (enrolled p t .tables)
   unfolding enrolled
@@ -214,6 +229,7 @@ module _ (N M : ℕ) (t : Tables) (g : Ghost) (inv : Inv N M (view t) g) (clean 
   happens-clean : {v : Event} {o : Out} → Happens N M t v o → ((p : ℕ) → p < N → o .tables .own p .held ≤ maxObjects) → Clean N M (o .tables)
   happens-clean (Happens.refuses r h) le = clean
   happens-clean (Happens.goes {p = p} s) le = step-clean p s (le p (s .here))
+  happens-clean (Happens.misses {p = p} {next = next} s) le = back-clean p next (s .here)
   happens-clean (Happens.calls {p = p} {c = c} ca) le = call-clean p c ca (le p (ca .here))
   happens-clean (Happens.enrols {p = p} re) le = register-clean p (re .here)
 

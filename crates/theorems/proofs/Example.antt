@@ -1,6 +1,7 @@
 -- The run of specs/Example goes as it says. On lists it is too long to compute, so it goes over to tables, as every run does (`run-same` and
 -- `reaches` of Theorem), and there it is computed. It is short because it has fewer than 2^62 events. Assumes nothing.
 use mathlib.Core.Path.{_≡_, refl}
+use mathlib.Core.Bool.{false}
 use mathlib.Core.List.{List, [], _∷_, _++_}
 use Prim.Native.Nat.{ℕ, _^_, _≤_, _<_}
 use native.Mathlib.Omega.{arith}
@@ -81,7 +82,7 @@ onTables : Example
 onTables = record {
   atRetirement = told (at 1 2 lists ok before) before;
   beforeFree = told (at 1 2 lists ok run) run;
-  frees = times 7 (OnTables.does 1 2 (OnTables.Event.steps 64 0) (at 1 2 lists ok run) .freed);
+  frees = times 7 (OnTables.does 1 2 (OnTables.Event.steps false 64 0) (at 1 2 lists ok run) .freed);
   changes = OnTables.changes 1 2 0 (tabled since) (at 1 2 lists ok (before ++ retirement ∷ []));
   afterFree = told (at 1 2 lists ok (run ++ step ∷ [])) (run ++ step ∷ []);
 }
@@ -92,11 +93,11 @@ unfolding onTables told Epoch.starting Epoch.isPinned Epoch.unpinned Epoch.pinne
     Links.tagged Links.pointee Links.pointer Links.nodeAt Bags.maxObjects Bags.isExpired Bags.itemWord Bags.itemOf Bags.items Bags.moved
     Bags.tokens Bags.freeSlots Bags.freeNodes Tables.read Tables.write Flow.on Flow.done Flow.also Flow.finalize Flow.collected Flow.collectSteps
     Flow.pops Flow.advanced Flow.walk Flow.waiting Flow.placed Flow.defer Flow.pushed Rule.asks Rule.follows Rule.agrees Rule.sees Rule.leaves
-    List.insert List.delete List.predWord List.iterate Queue.sealBag Queue.push Queue.pop Internal.pinningsBetweenCollect Internal.collects
+    Rule.fails List.insert List.delete List.predWord List.iterate Queue.sealBag Queue.push Queue.pop Internal.pinningsBetweenCollect Internal.collects
     Internal.pinCounted Internal.pinEpoch Internal.pinWord Internal.unpinWord Internal.repin Internal.advanceEpoch Internal.advanceWord
     Internal.advanceStore Internal.finalWord Internal.rule Codec.ownerNumber Codec.predPointer Codec.thenCode Codec.codeOf Codec.recordOf
     Codec.ownerOf Codec.predOf Codec.thenOf Codec.placeOf Codec.participantOf Codec.sameCode Step.putItem Step.sealInto Step.inBag Step.freeBag
-    Step.settle Step.freedBy Step.answerOf Step.follow Step.ruleAt Step.takeStep Calls.maxCount Calls.maxToken Calls.lacks Calls.countFull
+    Step.settle Step.freedBy Step.answerOf Step.follow Step.ruleAt Step.takeStep Step.takeMarked Calls.maxCount Calls.maxToken Calls.lacks Calls.countFull
     Calls.tokenAbove Calls.finalizes Calls.overflow Calls.pinNeeds Calls.needs Calls.begins Calls.opens Ranges.maxParticipants Ranges.maxNodes
     Ranges.withinLimits Ranges.bitWords Ranges.isRest Ranges.slotIn Ranges.nodeIn Ranges.ptrIn Ranges.predIn Ranges.cursorIn Ranges.popsIn
     Ranges.thenIn Ranges.registerIn Ranges.walkIn Ranges.popIn Ranges.pushIn Ranges.placeIn Ranges.entryPointerIn Ranges.headPointerIn
@@ -122,11 +123,11 @@ few-after : length (run ++ step ∷ []) < 2 ^ 62
 few-after = let e : length (run ++ step ∷ []) ≡ 54 = refl in omega arith
 
 -- the step that frees, and the words in between
-free-same : times 7 (frees (S.does 1 2 step (reached 1 2 lists run))) ≡ times 7 (OnTables.does 1 2 (OnTables.Event.steps 64 0) (at 1 2 lists ok run) .freed)
+free-same : times 7 (frees (S.does 1 2 step (reached 1 2 lists run))) ≡ times 7 (OnTables.does 1 2 (OnTables.Event.steps false 64 0) (at 1 2 lists ok run) .freed)
 free-same =
     let s = short run few in
     let k = sound 1 2 lists ok run s in
-    rw (reaches 1 2 lists ok run s, carries-step 1 2 (start 1 2 lists ok .limits) (at 1 2 lists ok run) (k .0) (clean 1 2 lists ok run s) (k .1) 0 (replicate 64 0) .tokens) refl
+    rw (reaches 1 2 lists ok run s, carries-step 1 2 (start 1 2 lists ok .limits) (at 1 2 lists ok run) (k .0) (clean 1 2 lists ok run s) (k .1) 0 false (replicate 64 0) .tokens) refl
 
 changes-same : S.changes 1 2 0 since (reached 1 2 lists (before ++ retirement ∷ [])) ≡ OnTables.changes 1 2 0 (tabled since) (at 1 2 lists ok (before ++ retirement ∷ []))
 changes-same =

@@ -1,4 +1,4 @@
--- The whole invariant, and the moves that keep it: a step, a call, a registering, each as it changes the machine and the ghost. Each group of
+-- The whole invariant, and the moves that keep it: a step, a call, a registering, a marked step that fails, each as it changes the machine and the ghost. Each group of
 -- clauses is shown kept in a module of its own, from the whole invariant before the move. Assumes nothing.
 use mathlib.Core.Path.{_≡_, refl}
 use mathlib.Core.Logic.{_≢_}
@@ -12,17 +12,19 @@ use Rattle.definition.specs.Bags.{maxObjects}
 use Rattle.definition.specs.Tables.{Shared, Tables, write}
 use Rattle.definition.specs.Tables as T
 use Rattle.definition.specs.Codec.{participantOf}
+use Rattle.definition.specs.Flow.{at}
 use Rattle.definition.specs.Rule.{Rule, asks, follows, sees, leaves}
 use Rattle.definition.specs.Internal.{rule}
 use Rattle.definition.specs.Calls.{maxCount, lacks, countFull, tokenAbove, needs, opens}
 use Rattle.definition.specs.Step.{follow, ruleAt, takeStep}
 use Rattle.definition.specs.Public.{takesNode, the, newParticipant}
+use Rattle.definition.specs.Marks.{back}
 use Rattle.definition.proofs.Within.{PlaceIn, ItemIn}
-use Rattle.theorems.proofs.Machine.{Machine, view, withShared, withOwn, withHeld, withFree, followed, view-follow}
+use Rattle.theorems.proofs.Machine.{Machine, view, withShared, withOwn, withHeld, withFree, followed, view-own, view-follow}
 use Rattle.theorems.proofs.Length.{follows-fits, begins-fits, Fitting}
 use Rattle.theorems.proofs.Ghost.{Use, Ghost, Turn, turnOf, G, moved}
 use Rattle.theorems.proofs.Invariant.{Records, Epochs, Listed, Queued, Held, Used, Bagged, Roomy, Each}
-use Rattle.theorems.proofs.Types.{Place, Word, After, Call}
+use Rattle.theorems.proofs.Types.{Ptr, RegisterAt, Place, Word, After, Call}
 
 -- numbers in range: pointers, counts, bags, what places carry
 pub record Ranged (N M : ℕ) (m : Machine) : Type 0 where
@@ -124,7 +126,16 @@ pub record Registers (N p : ℕ) (m : Machine) : Type 0 where
   pub here : p < N
   pub free : m .slotFree p ≡ true
 
--- ---- what the definition's step, call and registering do, seen on the machine
+-- ---- a marked step of p at its link, whose exchange fails though the list's head is `next`, as the link expects
+
+abbrev pub missed : ℕ → Ptr → Machine → Machine
+missed p next m = withOwn p (at (Place.Register (RegisterAt.Next next)) (m .own p)) m
+
+pub record Misses (N p : ℕ) (next : Ptr) (m : Machine) : Type 0 where
+  pub here : p < N
+  pub stands : m .own p .place ≡ Place.Register (RegisterAt.Link next)
+
+-- ---- what the definition's step and call and a failing marked step do, seen on the machine
 
 pub view-step : (M p : ℕ) (t : Tables) → view (takeStep M p t .tables) ≡ stepped M p (view t)
 unfolding takeStep ruleAt stepped goes leftOf afterOf ruleOf Fitting participantOf
@@ -136,3 +147,7 @@ view-step M p t =
 pub view-call : (N p : ℕ) (c : Call) (t : Tables) → view (follow p (opens N c (the p t)) t .tables) ≡ called N p c (view t)
 unfolding called opens Fitting participantOf
 view-call N p c t = view-follow p (opens N c (the p t)) t (begins-fits (t .own p .held) c _ refl)
+
+pub view-back : (p : ℕ) (next : Ptr) (t : Tables) → view (back p next t .tables) ≡ missed p next (view t)
+unfolding participantOf
+view-back p next t = view-own p _ t refl

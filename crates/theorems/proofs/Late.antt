@@ -86,6 +86,7 @@ late-call N M p x r c m g inv ca h = record { now = rw (epoch-call N M p c m g i
 late-happens : (N M x r : ℕ) (t : Tables) (g : Ghost) → Inv N M (view t) g → {v : Event} {o : Out} → Happens N M t v o → Late M x r (view t) → Late M x r (view (o .tables))
 late-happens N M x r t g inv (Happens.refuses n h) l = l
 late-happens N M x r t g inv (Happens.goes {p = p} s) l = rw (view-step M p t) (late-step N M p x r (view t) g inv s l)
+late-happens N M x r t g inv (Happens.misses s) l = record { now = unfold G in (l .now); sealed = l .sealed }
 late-happens N M x r t g inv (Happens.calls {p = p} {c = c} ca) l = rw (view-call N p c t) (late-call N M p x r c (view t) g inv ca l)
 late-happens N M x r t g inv (Happens.enrols {p = p} re) l = rw (view-register p t) (unfold registered write G in (record { now = unfold G in (l .now); sealed = l .sealed }))
 
@@ -98,6 +99,7 @@ unfolding ghostAfter
 gpin-happens N M d t g inv (Happens.refuses r h) e = refl
 gpin-happens N M d t g inv (Happens.goes {p = p} s) e = gpin-step N M p (view t) g inv s d
     ∙ gpin-same (G (view t)) (t .shared .word) (leftOf M p (view t) .word) (g .gpin) d (sym (word-step N M p (view t) g inv s d) ∙ ap (λ (m : Machine). m .shared .word d) (sym (view-step M p t)) ∙ e)
+gpin-happens N M d t g inv (Happens.misses s) e = refl
 gpin-happens N M d t g inv (Happens.calls {p = p} {c = c} ca) e = gpin-call N M p c (view t) g inv ca d
 gpin-happens N M d t g inv (Happens.enrols {p = p} re) e = unfold registeredGhost in refl
 
@@ -167,6 +169,7 @@ module _ (N M d x r w : ℕ) where
     kept-happens (Happens.refuses n h) = unfold times in refl
     kept-happens (Happens.goes {p = p} s) = rw (step-freed M p t, tokens-times x (freedItems (afterOf M p (view t) .work) (view t .bag)))
         (kept-work p (s .here) (afterOf M p (view t) .work) (step-sound N M p (view t) (k .sound .ghost) (k .sound .inv) s))
+    kept-happens (Happens.misses s) = unfold times in refl
     kept-happens (Happens.calls {p = p} {c = c} ca) = rw (call-freed N p c t, tokens-times x (freedItems (opens N c (view t .own p) .work) (view t .bag)))
         (kept-work p (ca .here) (opens N c (view t .own p) .work) (call-sound N M p c (view t) (k .sound .ghost) (k .sound .inv) ca))
     kept-happens (Happens.enrols {p = p} re) = unfold times enrolled in refl

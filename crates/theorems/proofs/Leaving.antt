@@ -314,8 +314,12 @@ module _ (N M p : ℕ) (m : Machine) (g : Ghost) (inv : Inv N M m g) (l : List �
 
 -- an event of a run
 module _ (N M : ℕ) (t : Tables) (g : Ghost) (inv : Inv N M (view t) g) (l : List ℕ) (hangs : Hangs (t .shared .nodeNext) (headOf (t .shared)) l) where
+  passed-same : Passed M (t .shared) (t .shared) l
+  passed-same = passed-still M (t .shared) (t .shared) l (λ x hx. turns-same (t .shared) (t .shared) x refl) refl hangs
+
   passed-happens : {v : Event} {o : Out} → Happens N M t v o → Passed M (t .shared) (view (o .tables) .shared) l
-  passed-happens (Happens.refuses r h) = passed-still M (t .shared) (t .shared) l (λ x hx. turns-same (t .shared) (t .shared) x refl) refl hangs
+  passed-happens (Happens.refuses r h) = passed-same
+  passed-happens (Happens.misses s) = passed-same
   passed-happens (Happens.goes {p = p} s) = rw (ap (λ (m : Machine). m .shared) (view-step M p t)) (passed-step N M p (view t) g inv l hangs s)
   passed-happens (Happens.calls {p = p} {c = c} ca) = rw (ap (λ (m : Machine). m .shared) (view-call N p c t)) (passed-call N M p (view t) g inv l hangs c ca)
   passed-happens (Happens.enrols {p = p} re) = rw (ap (λ (m : Machine). m .shared) (view-register p t)) (passed-register N M p (view t) g inv l hangs)

@@ -2,7 +2,7 @@
 -- definition's run reaches, with nothing beyond their ends (Clean), so nothing is lost between two calls (Back). A survey changes nothing and
 -- is left out (`tabled`). Whatever the statement counts along the one run it counts along the other (`Same`). Assumes nothing.
 use mathlib.Core.Path.{_≡_, refl, ap, _∙_}
-use mathlib.Core.Bool.{true}
+use mathlib.Core.Bool.{Bool, true}
 use mathlib.Core.List.{List, [], _∷_, _++_}
 use Prim.Native.Nat.{ℕ, _+_, _^_, _<_}
 use native.Mathlib.Omega.{arith}
@@ -41,7 +41,7 @@ use Rattle.definition.specs.declared.Report.{Report}
 
 -- the same event on tables; a survey is none
 unfoldable pub onTables : Event → List On.Event
-onTables (Event.steps p places) = On.Event.steps (length places) p ∷ []
+onTables (Event.steps p marked places) = On.Event.steps marked (length places) p ∷ []
 onTables Event.registers = On.Event.registers ∷ []
 onTables (Event.calls p c) = On.Event.calls p c ∷ []
 onTables (Event.surveys reports) = []
@@ -53,7 +53,7 @@ tabled (v ∷ run) = onTables v ++ tabled run
 pub tabled-more : (a b : List Event) → tabled (a ++ b) ≡ tabled a ++ tabled b
 unfolding tabled onTables
 tabled-more [] b = refl
-tabled-more (Event.steps p places ∷ a) b = ap (λ l. On.Event.steps (length places) p ∷ l) (tabled-more a b)
+tabled-more (Event.steps p marked places ∷ a) b = ap (λ l. On.Event.steps marked (length places) p ∷ l) (tabled-more a b)
 tabled-more (Event.registers ∷ a) b = ap (λ l. On.Event.registers ∷ l) (tabled-more a b)
 tabled-more (Event.calls p c ∷ a) b = ap (λ l. On.Event.calls p c ∷ l) (tabled-more a b)
 tabled-more (Event.surveys reports ∷ a) b = tabled-more a b
@@ -106,6 +106,7 @@ module _ (N M : ℕ) (places : List ℕ) where
   carries-happens : {t : Tables} {v : On.Event} {out : Out} → Happens N M t v out → Carries N M (given N M (lentOf N M t) places (out .answer) out) out
   carries-happens {t = t} (Happens.refuses r h) = carries-refused r t
   carries-happens {t = t} (Happens.goes s) = unfold takeStep follow in (carries-end (lentOf N M t) _ _ _)
+  carries-happens {t = t} (Happens.misses s) = unfold answerOf in (carries-end (lentOf N M t) End.GoesOn _ [])
   carries-happens {t = t} (Happens.calls ca) = unfold follow in (carries-end (lentOf N M t) _ _ _)
   carries-happens {t = t} (Happens.enrols re) = unfold enrolled answerOf in (carries-end (lentOf N M t) End.GoesOn _ [])
 
@@ -126,10 +127,10 @@ module _ (N M : ℕ) (limits : withinLimits N M ≡ true) where
     abbrev l : Lent
     l = lentOf N M t
 
-    pub carries-step : (p : ℕ) (places : List ℕ) → Carries N M (S.does N M (Event.steps p places) l) (On.does N M (On.Event.steps (length places) p) t)
+    pub carries-step : (p : ℕ) (marked : Bool) (places : List ℕ) → Carries N M (S.does N M (Event.steps p marked places) l) (On.does N M (On.Event.steps marked (length places) p) t)
     unfolding S.does stepLent
-    carries-step p places = rw (lending-is t clean places (step N M (length places) p))
-        (unfold On.does in (carries-happens N M places (happens N M t (s .ghost) (s .inv) (s .stored) small (On.Event.steps (length places) p))))
+    carries-step p marked places = rw (lending-is t clean places (step N M marked (length places) p))
+        (unfold On.does in (carries-happens N M places (happens N M t (s .ghost) (s .inv) (s .stored) small (On.Event.steps marked (length places) p))))
 
     pub carries-register : Carries N M (S.does N M Event.registers l) (On.does N M On.Event.registers t)
     unfolding S.does registerLent
@@ -225,8 +226,9 @@ module _ (N M : ℕ) (limits : withinLimits N M ≡ true) where
       (carries-register N M limits t s clean (omega arith)) (λ u su cu. same run u su cu)
   same (Event.calls p c ∷ run) t s clean lt = same-other (Event.calls p c) (On.Event.calls p c) run t s clean lt (unfold onTables in refl) (λ x a. unfold S.accepts On.accepts in refl)
       (carries-call N M limits t s clean (omega arith) p c) (λ u su cu. same run u su cu)
-  same (Event.steps p places ∷ run) t s clean lt = same-other (Event.steps p places) (On.Event.steps (length places) p) run t s clean lt (unfold onTables in refl) (λ x a. unfold S.accepts On.accepts in refl)
-      (carries-step N M limits t s clean (omega arith) p places) (λ u su cu. same run u su cu)
+  same (Event.steps p marked places ∷ run) t s clean lt = same-other (Event.steps p marked places) (On.Event.steps marked (length places) p) run t s clean lt
+      (unfold onTables in refl) (λ x a. unfold S.accepts On.accepts in refl)
+      (carries-step N M limits t s clean (omega arith) p marked places) (λ u su cu. same run u su cu)
 
   -- a call leaves every participant's word in the lists as it was
   pub words-kept : (t : Tables) → Sound N M t → Clean N M t → G (view t) < 2 ^ 62 → (p d : ℕ) (c : Call)

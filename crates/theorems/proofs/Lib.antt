@@ -37,6 +37,7 @@ pub mod Ranged
 pub mod Stored
 pub mod EpochsKept
 pub mod Whole
+pub mod Misses
 pub mod Start
 pub mod Checks
 pub mod Runs

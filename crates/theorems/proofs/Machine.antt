@@ -165,6 +165,18 @@ held-gone p o t h q = same? p q
     (λ e. rw (← e, put-same (t .own) p (recordOf o), put-same (bagOf t) p [], h))
     (λ ne. rw (put-other (t .own) p q (recordOf o) ne, put-other (bagOf t) p q [] ne))
 
+-- a record that changed and no bag with it
+pub view-own : (p : ℕ) (o : Participant) (t : Tables) → o .held ≡ t .own p .held → view (T.withOwn p (recordOf o) t) ≡ withOwn p o (view t)
+view-own p o t h = λ i. record {
+  shared = t .shared;
+  own = λ q. own-view p o t q i;
+  held = λ q. held-same p o t h q i;
+  bag = view t .bag;
+  slotFree = t .slotFree;
+  nodeFree = t .nodeFree;
+  aside = t .aside;
+}
+
 -- the bags of the nodes, where one changed
 abbrev sealedOf : SealedBag → Sealed
 sealedOf b = record { epoch = b .epoch; holds = items (b .len) (b .deferreds) }

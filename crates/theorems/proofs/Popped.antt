@@ -23,7 +23,7 @@ use Rattle.theorems.specs.OnTables.{Event, does, after, advances}
 use Rattle.theorems.proofs.Machine.{Machine, Sealed, view, withShared, works, followed}
 use Rattle.theorems.proofs.Ghost.{NodeUse, Ghost, Turn, G, headOf}
 use Rattle.theorems.proofs.Invariant.{Of, poppedNode, SafeNode}
-use Rattle.theorems.proofs.Inv.{Inv, Steps, Calls, Registers, leftOf, afterOf, goes, stepped, steppedGhost, called, calledGhost, registered, registeredGhost, view-step, view-call}
+use Rattle.theorems.proofs.Inv.{Inv, Steps, Calls, Registers, Misses, missed, leftOf, afterOf, goes, stepped, steppedGhost, called, calledGhost, registered, registeredGhost, view-step, view-call, view-back}
 use Rattle.theorems.proofs.Moves.{Deferred, Kind}
 use Rattle.theorems.proofs.Moves as Mv
 use Rattle.theorems.proofs.Queue.{spare≢placed}
@@ -35,9 +35,10 @@ use Rattle.theorems.proofs.Epochs.{none-not-some, of-none, of-known}
 use Rattle.theorems.proofs.Safety.{popped-here}
 use Rattle.theorems.proofs.Start.{startGhost}
 use Rattle.theorems.proofs.Checks.{view-register}
+use Rattle.theorems.proofs.Misses.{reads}
 use Rattle.theorems.proofs.Runs.{Happens, happens, ghostAfter, inv-happens, stored-happens, epoch-does, sound-fresh, fresh-epoch}
 use Rattle.theorems.proofs.Runs as R
-use Rattle.theorems.proofs.Types.{Node, Item, Pops, Deferring, Then, PopAt, PushAt, Place, Participant, Work, Call}
+use Rattle.theorems.proofs.Types.{Ptr, Node, Item, Pops, Deferring, Then, PopAt, PushAt, Place, Participant, Work, Call}
 
 -- ---- what a move does to the popped node of who makes it
 
@@ -174,6 +175,16 @@ module _ (N M p : ℕ) (c : Call) (m : Machine) (g : Ghost) (inv : Inv N M m g) 
   unfolding called followed
   bag-call x h lt = bag-stays N M m g inv b p (ca .here) (m .shared) (opens N c (m .own p) .work) (call-sound N M p c m g inv ca) x h lt
 
+-- by a marked step that fails: a registering has popped nothing
+popped-misses : (N p : ℕ) (next : Ptr) (m : Machine) (g : Ghost) → Popped N m g → Misses N p next m → Popped N (missed p next m) g
+popped-misses N p next m g b s = record {
+  behind = λ q hq. rw (popped q) (b .behind q hq);
+  single = λ a c ha hc n ea ec. b .single a c ha hc n (sym (popped a) ∙ ea) (sym (popped c) ∙ ec);
+}
+  where
+    popped : (q : ℕ) → poppedNode (missed p next m .own q .place) ≡ poppedNode (m .own q .place)
+    popped = reads N p next m poppedNode (s .stands) (unfold poppedNode in refl)
+
 -- by registering, which touches neither the queue nor its bags
 popped-register : (N M p : ℕ) (m : Machine) (g : Ghost) → Inv N M m g → Popped N m g → Registers N p m → Popped N (registered p m) (registeredGhost p g)
 unfolding registered registeredGhost
@@ -206,6 +217,7 @@ module _ (N M : ℕ) (t : Tables) (g : Ghost) (inv : Inv N M (view t) g) (b : Po
   unfolding ghostAfter
   popped-happens (Happens.refuses r h) = b
   popped-happens (Happens.goes {p = p} s) = rw (view-step M p t) (popped-step N M p (view t) g inv b s)
+  popped-happens (Happens.misses {p = p} {next = next} s) = rw (view-back p next t) (popped-misses N p next (view t) g b s)
   popped-happens (Happens.calls {p = p} {c = c} ca) = rw (view-call N p c t) (popped-call N M p c (view t) g inv b ca)
   popped-happens (Happens.enrols {p = p} re) = rw (view-register p t) (popped-register N M p (view t) g inv b re)
 
@@ -214,6 +226,7 @@ module _ (N M : ℕ) (t : Tables) (g : Ghost) (inv : Inv N M (view t) g) (b : Po
       → view (o .tables) .bag x ≡ view t .bag x
   bag-happens (Happens.refuses r h) x placed lt = refl
   bag-happens (Happens.goes {p = p} s) x placed lt = ap (λ (m : Machine). m .bag x) (view-step M p t) ∙ bag-step N M p (view t) g inv b s x placed lt
+  bag-happens (Happens.misses s) x placed lt = refl
   bag-happens (Happens.calls {p = p} {c = c} ca) x placed lt = ap (λ (m : Machine). m .bag x) (view-call N p c t) ∙ bag-call N M p c (view t) g inv b ca x placed lt
   bag-happens (Happens.enrols {p = p} re) x placed lt = ap (λ (m : Machine). m .bag x) (view-register p t) ∙ (unfold registered in refl)
 

@@ -8,48 +8,60 @@ use mathlib.Core.List.{List, [], _∷_}
 use Prim.Native.Nat.{ℕ, _+_, _^_, _≤_, _<_}
 use native.Mathlib.Omega.{arith}
 use lib.Dec.{eqb}
-use borrow.Author.Tests.{eqb-true, eqb-false}
+use borrow.Author.Tests.{eqb-true}
 use Rattle.epoch.specs.Epoch.{starting}
 use Rattle.definition.specs.Base.{branch, least}
 use Rattle.definition.specs.Tables.{Tables, write}
 use Rattle.definition.specs.Calls.{opens}
 use Rattle.definition.specs.Ranges.{fresh}
-use Rattle.definition.specs.Step.{Out, follow, takeStep}
-use Rattle.definition.specs.Public.{Check, refusal, refused, unless, the, enrolled, callChecks, call, registerChecks, register, stepChecks, step}
-use Rattle.definition.proofs.Base.{branch-ind}
+use Rattle.definition.specs.Rule.{fails}
+use Rattle.definition.specs.Step.{Out, follow, takeStep, takeMarked}
+use Rattle.definition.specs.Public.{refused, the, enrolled, callChecks, call, registerChecks, register, stepChecks, step}
+use Rattle.definition.specs.Marks.{back}
+use Rattle.definition.proofs.Refusals.{unless-ind}
+use Rattle.definition.proofs.Marks.{Marked, marked}
 use Rattle.theorems.specs.OnTables.{Event, does, after, advances}
 use Rattle.theorems.proofs.Machine.{view}
 use Rattle.theorems.proofs.Ghost.{Ghost, num, G}
-use Rattle.theorems.proofs.Inv.{Inv, Steps, Calls, steppedGhost, calledGhost, registeredGhost, view-step, view-call}
+use Rattle.theorems.proofs.Inv.{Inv, Steps, Calls, Misses, steppedGhost, calledGhost, registeredGhost, view-step, view-call, view-back}
 use Rattle.theorems.proofs.Inv as I
 use Rattle.theorems.proofs.Epochs.{up}
 use Rattle.theorems.proofs.EpochsKept.{epoch-call}
-use Rattle.theorems.proofs.Stored.{Stored, stored-step, stored-call, stored-register, stored-fresh}
+use Rattle.theorems.proofs.Stored.{Stored, stored-step, stored-call, stored-back, stored-register, stored-fresh}
 use Rattle.theorems.proofs.Checks.{passes-step, passes-call, passes-register, step-never-1, call-never-1, register-never-1, view-register}
 use Rattle.theorems.proofs.Whole.{inv-step, inv-call, inv-register}
+use Rattle.theorems.proofs.Misses.{inv-misses}
 use Rattle.theorems.proofs.Start.{startGhost, inv-start}
-use Rattle.theorems.proofs.Types.{Call, Answer}
-
--- what comes out, by what the checks say
-unless-ind : (P : Out → Type 0) (l : List Check) (t : Tables) (out : Out) → (refusal l ≡ 0 → P out) → (refusal l ≢ 0 → P (refused (refusal l) t)) → P (unless l t out)
-unfolding unless
-unless-ind P l t out h k = branch-ind P (eqb (refusal l) 0) (λ e. h (eqb-true (refusal l) 0 e)) (λ e. k (eqb-false (refusal l) 0 e))
+use Rattle.theorems.proofs.Types.{Ptr, Call, Answer}
 
 -- ---- one event
 
--- a refusal; or a step, a call, a registering, with all that the invariant asks of it
+-- a refusal; or a step, a marked step that fails, a call, a registering, with all that the invariant asks of it
 pub data Happens (N M : ℕ) (t : Tables) : Event → Out → Type 0 where
   refuses : {v : Event} (r : ℕ) → r ≢ 0 → Happens N M t v (refused r t)
-  goes : {places p : ℕ} → Steps N M p (view t) → Happens N M t (Event.steps places p) (takeStep M p t)
+  goes : {marked : Bool} {places p : ℕ} → Steps N M p (view t) → Happens N M t (Event.steps marked places p) (takeStep M p t)
+  misses : {places p : ℕ} {next : Ptr} → Misses N p next (view t) → Happens N M t (Event.steps true places p) (back p next t)
   calls : {p : ℕ} {c : Call} → Calls N M p c (view t) → Happens N M t (Event.calls p c) (follow p (opens N c (the p t)) t)
   enrols : {p : ℕ} → I.Registers N p (view t) → Happens N M t Event.registers (enrolled p t)
 
 module _ (N M : ℕ) (t : Tables) (g : Ghost) (inv : Inv N M (view t) g) (st : Stored N M t) where
+  -- what comes of a step, where the mark has no effect
+  unmarked : G (view t) < 2 ^ 62 → (marked : Bool) (places p : ℕ) → Happens N M t (Event.steps marked places p) (step N M false places p t)
+  unfolding step takeMarked fails branch
+  unmarked small marked places p = unless-ind (Happens N M t (Event.steps marked places p)) (stepChecks N M places p t) t (takeStep M p t)
+      (λ e. Happens.goes (passes-step N M places p t g inv small e)) (λ ne. Happens.refuses _ ne)
+
+  -- of a marked one
+  by-mark : G (view t) < 2 ^ 62 → (places p : ℕ) → Marked N M places p t → Happens N M t (Event.steps true places p) (step N M true places p t)
+  by-mark small places p (Marked.same e) = rw e (unmarked small true places p)
+  by-mark small places p (Marked.misses next k e) =
+      rw e (Happens.misses (record { here = passes-step N M places p t g inv small (k .passes) .here; stands = k .stands }))
+
   -- what comes of an event
   pub happens : G (view t) < 2 ^ 62 → (v : Event) → Happens N M t v (does N M v t)
-  unfolding does step register call
-  happens small (Event.steps places p) = unless-ind (Happens N M t (Event.steps places p)) (stepChecks N M places p t) t (takeStep M p t)
-      (λ e. Happens.goes (passes-step N M places p t g inv small e)) (λ ne. Happens.refuses _ ne)
+  unfolding does register call
+  happens small (Event.steps true places p) = by-mark small places p (marked N M places p t)
+  happens small (Event.steps false places p) = unmarked small false places p
   happens small Event.registers = unless-ind (Happens N M t Event.registers) (registerChecks N M t) t (enrolled (least N (t .slotFree)) t)
       (λ e. Happens.enrols (passes-register N M t e)) (λ ne. Happens.refuses _ ne)
   happens small (Event.calls p c) = unless-ind (Happens N M t (Event.calls p c)) (callChecks N M p c t) t (follow p (opens N c (the p t)) t)
@@ -58,7 +70,7 @@ module _ (N M : ℕ) (t : Tables) (g : Ghost) (inv : Inv N M (view t) g) (st : S
   -- it is never refusal 1
   pub never-1 : (v : Event) → does N M v t .answer ≢ Answer.Refused 1
   unfolding does
-  never-1 (Event.steps places p) = step-never-1 N M places p t g inv st
+  never-1 (Event.steps marked places p) = step-never-1 N M marked places p t g inv st
   never-1 Event.registers = register-never-1 N M t g inv st
   never-1 (Event.calls p c) = call-never-1 N M p c t g inv st
 
@@ -68,6 +80,7 @@ module _ (N M : ℕ) (t : Tables) (g : Ghost) (inv : Inv N M (view t) g) (st : S
 unfoldable pub ghostAfter : {N M : ℕ} {t : Tables} {v : Event} {o : Out} → Happens N M t v o → Ghost → Ghost
 ghostAfter (Happens.refuses r h) g = g
 ghostAfter {M = M} {t = t} (Happens.goes {p = p} st) g = steppedGhost M p (view t) g
+ghostAfter (Happens.misses s) g = g
 ghostAfter {N = N} {t = t} (Happens.calls {p = p} {c = c} ca) g = calledGhost N p c (view t) g
 ghostAfter (Happens.enrols {p = p} re) g = registeredGhost p g
 
@@ -77,6 +90,7 @@ module _ (N M : ℕ) (t : Tables) (g : Ghost) (inv : Inv N M (view t) g) (st : S
   unfolding ghostAfter
   inv-happens (Happens.refuses r h) = inv
   inv-happens (Happens.goes {p = p} s) = rw (view-step M p t) (inv-step N M p (view t) g inv s)
+  inv-happens (Happens.misses {p = p} {next = next} s) = rw (view-back p next t) (inv-misses N M p next (view t) g inv s)
   inv-happens (Happens.calls {p = p} {c = c} ca) = rw (view-call N p c t) (inv-call N M p c (view t) g inv ca)
   inv-happens (Happens.enrols {p = p} re) = rw (view-register p t) (inv-register N M p (view t) g inv re)
 
@@ -84,6 +98,7 @@ module _ (N M : ℕ) (t : Tables) (g : Ghost) (inv : Inv N M (view t) g) (st : S
   pub stored-happens : {v : Event} {o : Out} → Happens N M t v o → Stored N M (o .tables)
   stored-happens (Happens.refuses r h) = st
   stored-happens (Happens.goes {p = p} s) = stored-step N M p t g inv s st
+  stored-happens (Happens.misses {p = p} {next = next} s) = stored-back N M p next t st
   stored-happens (Happens.calls {p = p} {c = c} ca) = stored-call N M p c t g inv ca st
   stored-happens (Happens.enrols {p = p} re) = stored-register N M p t st
 
@@ -91,6 +106,7 @@ module _ (N M : ℕ) (t : Tables) (g : Ghost) (inv : Inv N M (view t) g) (st : S
   pub epoch-happens : {v : Event} {o : Out} → Happens N M t v o → (G (view t) ≤ G (view (o .tables))) × (G (view (o .tables)) ≤ G (view t) + 1)
   epoch-happens (Happens.refuses r h) = (omega arith, omega arith)
   epoch-happens (Happens.goes {p = p} s) = rw (view-step M p t) (let u = up N M p (view t) g inv s in unfold G in (u .0, u .1 .0))
+  epoch-happens (Happens.misses s) = unfold G in (omega arith, omega arith)
   epoch-happens (Happens.calls {p = p} {c = c} ca) = rw (view-call N p c t, epoch-call N M p c (view t) g inv ca) (omega arith, omega arith)
   epoch-happens (Happens.enrols {p = p} re) = unfold G enrolled write in (omega arith, omega arith)
 

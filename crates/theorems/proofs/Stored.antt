@@ -12,7 +12,7 @@ use lib.Dec.{eqb, ltb, leb}
 use borrow.Author.Tests.{eqb-false, eq-eqb, ne-eqb, ltb-true, lt-ltb, le-leb}
 use Rattle.definition.specs.Base.{branch, Tab, put, count, least, listed}
 use Rattle.definition.specs.Bags.{maxObjects, SealedBag, itemWord, itemOf, items, moved, freeSlots, freeNodes}
-use Rattle.definition.specs.Flow.{collectSteps}
+use Rattle.definition.specs.Flow.{collectSteps, at}
 use Rattle.definition.specs.Tables.{Shared, Tables}
 use Rattle.definition.specs.Tables as T
 use Rattle.definition.specs.Codec.{codeOf, placeOf, recordOf, participantOf, sameCode}
@@ -23,6 +23,7 @@ use Rattle.definition.specs.Ranges.{bitWords, isRest, slotIn, nodeIn, ptrIn, pr
 use Rattle.definition.specs.Ranges.{entryPointerIn, headPointerIn, nodePointerIn, endPointerIn, itemIn, bagIn, codeIn, recordIn, bitsIn, sharedIn, inRange, fresh}
 use Rattle.definition.specs.Step.{putItem, sealInto, inBag, freeBag, settle, follow, ruleAt, takeStep}
 use Rattle.definition.specs.Public.{takesNode, the, newParticipant, enrolled, damaged, missing}
+use Rattle.definition.specs.Marks.{back}
 use Rattle.definition.proofs.Opens.{opens-in}
 use Rattle.definition.proofs.Base.{branch-true, same?, put-ind, put-same, put-other, both, all-intro, count-le}
 use Rattle.definition.proofs.Codec.{place-back}
@@ -456,6 +457,19 @@ unfolding opens participantOf Fitting
 stored-call N M p c t g inv calls st =
     stored-follow N M p (opens N c (the p t)) t st (calls .here) (inv .ranged .held p (calls .here) .0) (inv .ranged .bags)
     (begins-fits (t .own p .held) c _ refl) (opens-in N M c (the p t) (calls .token) .1)
+
+-- a marked step that fails
+pub stored-back : (N M p : ℕ) (next : Ptr) (t : Tables) → Stored N M t → Stored N M (back p next t .tables)
+unfolding recordOf participantOf
+stored-back N M p next t st = record {
+  codes = λ q hq. put-ind (λ (r : Record). sameCode (codeOf (placeOf (r .code))) (r .code) ≡ true) (t .own) p q _
+      (λ _. written-code (at (Place.Register (RegisterAt.Next next)) (the p t))) (λ _. st .codes q hq);
+  slotBits = st .slotBits;
+  nodeBits = st .nodeBits;
+  lengths = st .lengths;
+  heldWords = λ q hq j. put-ind (λ (r : Record). j < r .held → 1 ≤ t .held q j % 4) (t .own) p q _ (λ i lt. st .heldWords q hq j (rw (← i) lt)) (λ _. st .heldWords q hq j);
+  bagWords = st .bagWords;
+}
 
 -- a registering
 pub stored-register : (N M p : ℕ) (t : Tables) → Stored N M t → Stored N M (enrolled p t .tables)

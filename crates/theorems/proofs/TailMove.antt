@@ -34,7 +34,8 @@ use Rattle.theorems.proofs.Leads.{Leads, leads}
 use Rattle.theorems.proofs.Ghost.{Use, NodeUse, Ghost, Turn, turnOf, num, G, headOf, tailOf, posTurned, lastTurned, moved}
 use Rattle.theorems.proofs.Invariant.{Of, popEpoch, takenNode, oldHead, Pinned, SafeNode, HoldsPop, HoldsPush, HoldsAt}
 use Rattle.theorems.proofs.Change.{MovesTail, Change}
-use Rattle.theorems.proofs.Inv.{Inv, Steps, Calls, Registers, ruleOf, wonOf, leftOf, afterOf, goes, goesGhost, stepped, steppedGhost, called, calledGhost, registered, registeredGhost, view-step, view-call}
+use Rattle.theorems.proofs.Inv.{Inv, Steps, Calls, Registers, Misses, missed, view-step, view-call, view-back}
+use Rattle.theorems.proofs.Inv.{ruleOf, wonOf, leftOf, afterOf, goes, goesGhost, stepped, steppedGhost, called, calledGhost, registered, registeredGhost}
 use Rattle.theorems.proofs.Linked.{free-unused, pinned-linked, step-change}
 use Rattle.theorems.proofs.Moves.{Deferred, Kind}
 use Rattle.theorems.proofs.Moves as Mv
@@ -47,9 +48,10 @@ use Rattle.theorems.proofs.Popped.{some-same}
 use Rattle.theorems.proofs.Start.{startGhost, inv-start}
 use Rattle.theorems.proofs.Stored.{stored-fresh}
 use Rattle.theorems.proofs.Checks.{view-register}
+use Rattle.theorems.proofs.Misses.{each, reads}
 use Rattle.theorems.proofs.Runs.{Happens, happens, ghostAfter, inv-happens, stored-happens, epoch-does, fresh-epoch}
 use Rattle.theorems.proofs.Runs as R
-use Rattle.theorems.proofs.Types.{Slot, Node, Pred, Item, Pops, Deferring, Then, PopAt, PushAt, Place, Participant, Work, After, Call}
+use Rattle.theorems.proofs.Types.{Ptr, Slot, Node, Pred, Item, Pops, Deferring, Then, PopAt, PushAt, Place, Participant, Work, After, Call}
 
 -- ---- places
 
@@ -634,6 +636,32 @@ module _ (N M p : ℕ) (m : Machine) (g : Ghost) (inv : Inv N M m g) (b : Behind
         (λ ne. rw (register-other q ne) (b .never q hq));
   }
 
+-- a marked step that fails: a registering has taken no node, is no mover and no popper
+module _ (N M p : ℕ) (next : Ptr) (m : Machine) (g : Ghost) (b : Behind N M m g) (s : Misses N p next m) where
+  mover-misses : Mover N m g → Mover N (missed p next m) g
+  mover-misses v = record {
+    who = v .who;
+    goal = v .goal;
+    new = v .new;
+    onto = v .onto;
+    here = v .here;
+    tail = v .tail;
+    pin = v .pin;
+    stands = put-ind (λ (o : Participant). o .place ≡ Place.Push (v .goal) (PushAt.Move (v .new) (v .onto))) (m .own) p (v .who) _ (λ i. absurd (elsewhere i)) (λ _. v .stands);
+  }
+    where
+      -- a mover is not registering
+      elsewhere : p ≡ v .who → ⊥
+      elsewhere i = let links = s .stands in let moves = v .stands in let z : _≡_ {A = ℕ} 0 1 = cc in omega arith
+
+  pub behind-misses : Behind N M (missed p next m) g
+  behind-misses = record {
+    taken = λ q hq. rw (reads N p next m takenNode (s .stands) (unfold takenNode in refl) q) (b .taken q hq);
+    mover = λ lag. mover-misses (b .mover lag);
+    left = λ q hq. rw (reads N p next m oldHead (s .stands) (unfold oldHead in refl) q) (b .left q hq);
+    never = each N p next m (λ q o. NotMove (o .place)) (unfold NotMove in tt) (b .never);
+  }
+
 -- ---- along a run
 
 -- at a fresh start everybody rests, and the tail is the last node
@@ -657,6 +685,7 @@ pub behind-happens : (N M : ℕ) (t : Tables) (g : Ghost) → Inv N M (view t) g
 unfolding ghostAfter
 behind-happens N M t g inv b (Happens.refuses r h) = b
 behind-happens N M t g inv b (Happens.goes {p = p} s) = rw (view-step M p t) (behind-step N M p (view t) g inv b s)
+behind-happens N M t g inv b (Happens.misses {p = p} {next = next} s) = rw (view-back p next t) (behind-misses N M p next (view t) g b s)
 behind-happens N M t g inv b (Happens.calls {p = p} {c = c} ca) = rw (view-call N p c t) (behind-call N M p c (view t) g inv b ca)
 behind-happens N M t g inv b (Happens.enrols {p = p} re) = rw (view-register p t) (behind-register N M p (view t) g inv b re)
 

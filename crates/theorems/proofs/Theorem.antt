@@ -175,7 +175,7 @@ module _ (N M : ℕ) (l : Lent) (ok : startLent N M l .answer ≡ Answer.Done 0 
       c = clean run short
 
       by : (v : Event) → S.does N M v (lentOf N M t) .answer ≢ Answer.Refused 1
-      by (Event.steps p places) = rw (carries-step N M (start .limits) t s c small p places .answer) (on .neverDamaged (tabled run) (few run short) (On.Event.steps (length places) p))
+      by (Event.steps p marked places) = rw (carries-step N M (start .limits) t s c small p marked places .answer) (on .neverDamaged (tabled run) (few run short) (On.Event.steps marked (length places) p))
       by Event.registers = rw (carries-register N M (start .limits) t s c small .answer) (on .neverDamaged (tabled run) (few run short) On.Event.registers)
       by (Event.calls p q) = rw (carries-call N M (start .limits) t s c small p q .answer) (on .neverDamaged (tabled run) (few run short) (On.Event.calls p q))
       by (Event.surveys reports) = survey-never N M t c (never-damaged N M t (s .ghost) (s .inv) (s .stored)) reports
@@ -223,7 +223,7 @@ module _ (N M : ℕ) (l : Lent) (ok : startLent N M l .answer ≡ Answer.Done 0 
         c = clean (before ++ since) short
 
         by : (v : Event) → Frees N M v x (lentOf N M t) → Changed N M d since (reached N M l before)
-        by (Event.steps p places) f = early x d hd new pin (On.Event.steps (length places) p) (rw (← carries-step N M (start .limits) t s c small p places .tokens) f)
+        by (Event.steps p marked places) f = early x d hd new pin (On.Event.steps marked (length places) p) (rw (← carries-step N M (start .limits) t s c small p marked places .tokens) f)
         by Event.registers f = early x d hd new pin On.Event.registers (rw (← carries-register N M (start .limits) t s c small .tokens) f)
         by (Event.calls p q) f = early x d hd new pin (On.Event.calls p q) (rw (← carries-call N M (start .limits) t s c small p q .tokens) f)
         by (Event.surveys reports) f = let z = survey-frees N M (lentOf N M t) reports x in absurd (omega arith)

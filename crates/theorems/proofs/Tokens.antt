@@ -23,11 +23,12 @@ use Rattle.theorems.proofs.Machine.{view}
 use Rattle.theorems.proofs.Ghost.{Ghost, G}
 use Rattle.theorems.proofs.Invariant.{waitingItem, sameItem, has, occurs, waits}
 use Rattle.theorems.proofs.Invariant as Inv′
-use Rattle.theorems.proofs.Inv.{Inv, afterOf, ruleOf, view-step, view-call}
+use Rattle.theorems.proofs.Inv.{Inv, afterOf, ruleOf, view-step, view-call, view-back}
 use Rattle.theorems.proofs.Moves.{gainedBy}
 use Rattle.theorems.proofs.Balance.{freedItems, tokens-times, acceptedBy, tokens-step, tokens-call, balance-register}
 use Rattle.theorems.proofs.Start.{nothing-waits}
 use Rattle.theorems.proofs.Checks.{view-register}
+use Rattle.theorems.proofs.Misses.{occurs-misses}
 use Rattle.theorems.proofs.Runs.{Happens, happens, Sound, sound-does, epoch-does, sound-fresh, fresh-epoch}
 use Rattle.theorems.proofs.Popped.{Along, along-run}
 use Rattle.theorems.proofs.Counted.{sum-plus, all-counted}
@@ -113,7 +114,7 @@ call-freed N p c t = freed-view (opens N c (the p t) .work) t
 -- what a refusal accepts, and what a call accepts
 refused-accepts : (x : ℕ) (v : Event) (r : ℕ) → accepts x v (Answer.Refused r) ≡ 0
 unfolding accepts ifAccepted
-refused-accepts x (Event.steps places p) r = refl
+refused-accepts x (Event.steps marked places p) r = refl
 refused-accepts x Event.registers r = refl
 refused-accepts x (Event.calls p c) r = refl
 
@@ -126,9 +127,11 @@ call-accepts N x p c t = answer-accepted (defers x c) _ _ ∙ defers-same x c
 pub balance-happens : (N M x : ℕ) (t : Tables) (g : Ghost) → Inv N M (view t) g → {v : Event} {o : Out} → Happens N M t v o
     → occurs N M (view (o .tables)) (Item.Token x) + times x (o .freed) ≡ occurs N M (view t) (Item.Token x) + accepts x v (o .answer)
 balance-happens N M x t g inv {v = v} (Happens.refuses r h) = rw (refused-accepts x v r) (unfold times in refl)
-balance-happens N M x t g inv (Happens.goes {places = places} {p = p} s) =
+balance-happens N M x t g inv (Happens.goes {p = p} s) =
     let k = tokens-step N M p (view t) g inv s x in
     rw (view-step M p t, step-freed M p t) (unfold accepts in (omega arith))
+balance-happens N M x t g inv (Happens.misses {p = p} {next = next} s) =
+    rw (view-back p next t, occurs-misses N M p next (view t) g inv s (Item.Token x)) (unfold accepts times in (omega arith))
 balance-happens N M x t g inv (Happens.calls {p = p} {c = c} ca) =
     let k = tokens-call N M p c (view t) g inv ca x in
     rw (view-call N p c t, call-freed N p c t, call-accepts N x p c t) k

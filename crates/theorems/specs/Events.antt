@@ -2,7 +2,7 @@
 -- comes of it by the very functions that the code's promises cite (crates/reclaimer), so what is said of a run is said of the code. It speaks of
 -- answers, freed tokens and words in the lent lists (`tablesOf` reads them). Assumes nothing.
 use mathlib.Core.Path.{_≡_}
-use mathlib.Core.Bool.{true}
+use mathlib.Core.Bool.{Bool, true}
 use mathlib.Core.List.{List, [], _∷_, _++_}
 use Prim.Native.Nat.{ℕ, _+_, _≤_}
 use lib.Dec.{eqb}
@@ -20,16 +20,17 @@ use Rattle.definition.specs.declared.Report.{Report}
 use Rattle.theorems.specs.Waiting.{times, defers, ifAccepted}
 use Rattle.theorems.specs.Order.{linked, left, Bagged, bags, Hangs}
 
--- any public call but a second start: a step with the list that it lends for freed tokens, a registering, a call, a survey with its reports
+-- any public call but a second start: a step, marked or not, with the list that it lends for freed tokens, a registering, a call, a survey with
+-- its reports
 pub data Event : Type 0 where
-  steps : (p : ℕ) → (places : List ℕ) → Event
+  steps : (p : ℕ) → (marked : Bool) → (places : List ℕ) → Event
   registers : Event
   calls : (p : ℕ) → Call → Event
   surveys : List Report → Event
 
 -- how often an event retires a token: 1 or 0
 unfoldable pub accepts : ℕ → Event → Answer → ℕ
-accepts x (Event.steps p places) a = 0
+accepts x (Event.steps p marked places) a = 0
 accepts x Event.registers a = 0
 accepts x (Event.calls p c) a = ifAccepted (defers x c) a
 accepts x (Event.surveys reports) a = 0
@@ -46,7 +47,7 @@ frees o = take (number (o .answer)) (o .freed)
 module _ (N M : ℕ) where
   -- what comes of an event: the answer, the lent lists and the list for freed tokens afterwards
   unfoldable pub does : Event → Lent → Outcome
-  does (Event.steps p places) l = stepLent N M l p places
+  does (Event.steps p marked places) l = stepLent N M l p marked places
   does Event.registers l = registerLent N M l
   does (Event.calls p c) l = callLent N M l p c
   does (Event.surveys reports) l = record { answer = surveyLent N M l reports .answer; lent = l; freed = [] }

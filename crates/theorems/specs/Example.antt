@@ -1,7 +1,7 @@
 -- A run in the words of the statement, in which a token is freed: document 01's, where after the first pin come defer 7, flush, unpin, pin, flush, repin
 -- and the flush that frees. One participant and two nodes; the lists lent to `start` hold fives. The numbers that the statement speaks of, before the step that frees 7 and
 -- after it; proofs/Example shows that they are these. Assumes nothing.
-use mathlib.Core.Bool.{Bool, true}
+use mathlib.Core.Bool.{Bool, true, false}
 use mathlib.Core.List.{List, [], _∷_, _++_}
 use Prim.Native.Nat.{ℕ}
 use lib.ListN.{replicate}
@@ -18,7 +18,7 @@ lists = lent (replicate 7 5) (replicate 21 5) (replicate 6 5) (replicate 64 5) (
 
 -- a step of participant 0, with a list of 64 places; a call of it, and so many steps
 abbrev pub step : Event
-step = Event.steps 0 (replicate 64 0)
+step = Event.steps 0 false (replicate 64 0)
 
 abbrev pub operation : Call → ℕ → List Event
 operation c k = Event.calls 0 c ∷ replicate k step

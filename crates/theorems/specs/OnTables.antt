@@ -3,7 +3,7 @@
 -- has a number of places for freed tokens in place of a list. Assumes nothing.
 use mathlib.Core.Path.{_≡_}
 use mathlib.Core.Logic.{_≢_}
-use mathlib.Core.Bool.{true, false}
+use mathlib.Core.Bool.{Bool, true, false}
 use mathlib.Core.List.{List, [], _∷_, _++_}
 use Prim.Native.Nat.{ℕ, _+_, _^_, _≤_, _<_}
 use lib.Dec.{eqb, leb}
@@ -20,20 +20,20 @@ use Rattle.theorems.specs.Order.{linked, left, Bagged, bags, Hangs}
 use Rattle.theorems.specs.Waiting.{times, waiting, defers, ifAccepted}
 
 pub data Event : Type 0 where
-  steps : (places p : ℕ) → Event
+  steps : (marked : Bool) → (places p : ℕ) → Event
   registers : Event
   calls : ℕ → Call → Event
 
 -- how often an event retires the token: 1 or 0
 unfoldable pub accepts : ℕ → Event → Answer → ℕ
-accepts x (Event.steps places p) a = 0
+accepts x (Event.steps marked places p) a = 0
 accepts x Event.registers a = 0
 accepts x (Event.calls p c) a = ifAccepted (defers x c) a
 
 module _ (N M : ℕ) where
   -- what comes of one event
   unfoldable pub does : Event → Tables → Out
-  does (Event.steps places p) t = step N M places p t
+  does (Event.steps marked places p) t = step N M marked places p t
   does Event.registers t = register N M t
   does (Event.calls p c) t = call N M p c t
 

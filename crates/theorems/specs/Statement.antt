@@ -1,7 +1,7 @@
 -- Demand 3, for a reader: what is true of every run of the public calls on lent lists, from a start that was not refused, in any order and with any
--- arguments, as long as the global epoch changed fewer than 2^62 times (`Demand`; `reclaims` of proofs/Theorem proves it, with no hypothesis left). What
--- is said of every run is said of every point of every run. Above each clause stands, in our words, what the paper asks and the clause renders.
--- The words are in specs/Events (events, what comes of them, what was retired and freed), specs/Waiting (where a token waits) and
+-- arguments, steps marked or not, as long as the global epoch changed fewer than 2^62 times (`Demand`; `reclaims` of proofs/Theorem proves it, with no
+-- hypothesis left). What is said of every run is said of every point of every run. Above each clause stands, in our words, what the paper asks and the
+-- clause renders. The words are in specs/Events (events, what comes of them, what was retired and freed), specs/Waiting (where a token waits) and
 -- specs/Order (what was linked, what left and what hangs in the queue); specs/Example has a run told in them, in which a token is freed.
 --
 -- Not claimed here: that a token is ever freed. A reclaimer that frees nothing would pass every clause; that this one frees what and when the Rust

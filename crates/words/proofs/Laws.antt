@@ -1,5 +1,6 @@
 -- What an access leaves, read as tables: the shared words are those of the definition, and nothing else has changed. A list that an access
--- leaves is the list itself or the list with one word set, and which words these can be is said once for each list. Assumes nothing.
+-- leaves is the list itself or the list with one word set, and which words these can be is said once for each list. Last, the same for an access
+-- that may fail for no reason. Assumes nothing.
 use mathlib.Core.Path.{_≡_, refl, ap, ap₂, sym, _∙_, subst, fun-ext}
 use mathlib.Core.Bool.{Bool, true, false}
 use mathlib.Core.List.{List}
@@ -14,12 +15,13 @@ use Rattle.definition.specs.Links.{tagged}
 use Rattle.definition.specs.Bags.{maxObjects}
 use Rattle.definition.specs.Ranges.{bitWords}
 use Rattle.definition.specs.Tables.{Shared, read, write, withShared}
-use Rattle.definition.specs.Rule.{agrees, leaves}
+use Rattle.definition.specs.Rule.{agrees, leaves, fails}
 use Rattle.definition.specs.Layout.{Lent, globalWords, participantWords, nodeWords, cell, bits, recordAt, sharedFrom, bagFrom, slotBits, nodeBits, tablesOf}
 use Rattle.definition.specs.declared.Word.{Word}
 use Rattle.definition.specs.declared.Ask.{Ask}
+use Rattle.definition.specs.declared.Seen.{Seen}
 use Rattle.records.proofs.Laws.{each, column, each-set, each-kept}
-use Rattle.words.specs.Words.{named, wordIn, writeGlobals, writeParticipants, writeNodes, leftBy, leftGlobals, leftParticipants, leftNodes, leftLent}
+use Rattle.words.specs.Words.{named, wordIn, writeGlobals, writeParticipants, writeNodes, leftBy, leftGlobals, leftParticipants, leftNodes, leftLent, Made}
 
 -- ---- which words can be set
 
@@ -204,3 +206,29 @@ left-tables N M ask l h = λ i. record {
   nodeFree = kept-nodeBits ask (l .globals) (l .participants) (l .nodes) h N M i;
   aside = kept-globals ask (l .globals) (l .participants) (l .nodes) h 4 (omega arith) i;
 }
+
+-- ---- a step that is marked or not
+
+-- what an access comes to: one that fails for no reason leaves what a load of its word leaves, so that all of the above holds for it as well
+unfoldable pub comesTo : (marked : Bool) → Ask → Ask
+comesTo marked ask = branch (fails marked ask) (Ask.Load (named ask)) ask
+
+module _ (marked : Bool) (ask : Ask) (g p n : List ℕ) where
+  -- it names the same word
+  pub comes-in : wordIn (named ask) g p n → wordIn (named (comesTo marked ask)) g p n
+  unfolding comesTo
+  comes-in h = branch-ind (λ (a : Ask). wordIn (named a) g p n) (fails marked ask) (λ _. h) (λ _. h)
+
+  either : (f : Ask → List ℕ) (b : Bool) → branch b (f (Ask.Load (named ask))) (f ask) ≡ f (branch b (Ask.Load (named ask)) ask)
+  unfolding branch
+  either f true = refl
+  either f false = refl
+
+  -- and it leaves the lists that the access left
+  pub made-left : (r : Seen) (g′ p′ n′ : List ℕ) → Made marked ask g p n r g′ p′ n′
+      → (g′ ≡ leftGlobals (comesTo marked ask) g p n) × ((p′ ≡ leftParticipants (comesTo marked ask) g p n) × (n′ ≡ leftNodes (comesTo marked ask) g p n))
+  unfolding comesTo leftBy
+  made-left r g′ p′ n′ m = (
+    m .globals ∙ either (λ a. leftGlobals a g p n) (fails marked ask),
+    (m .participants ∙ either (λ a. leftParticipants a g p n) (fails marked ask), m .nodes ∙ either (λ a. leftNodes a g p n) (fails marked ask)),
+  )

@@ -1,13 +1,15 @@
 -- The shared words in the lent lists: which of them an access names, whether it lies in the lists, and what the access leaves of each list.
--- What it sees, and when an exchange is done, is the definition's (specs/Rule); proofs/Laws ties the rest to it. Assumes nothing.
+-- What it sees, when an exchange is done, and when one fails for no reason, is the definition's (specs/Rule); proofs/Laws ties the rest to it.
+-- Assumes nothing.
 use mathlib.Core.Path.{_≡_}
+use mathlib.Core.Bool.{Bool}
 use mathlib.Core.List.{List}
 use Prim.Native.Nat.{ℕ, _+_, _*_, _≤_}
 use lib.ListN.{length, set}
 use Rattle.definition.specs.Base.{branch}
 use Rattle.definition.specs.Links.{tagged}
 use Rattle.definition.specs.Tables.{Shared, read}
-use Rattle.definition.specs.Rule.{agrees, sees}
+use Rattle.definition.specs.Rule.{agrees, sees, fails, missed}
 use Rattle.definition.specs.Layout.{Lent, sharedFrom}
 use Rattle.definition.specs.declared.Word.{Word}
 use Rattle.definition.specs.declared.Ask.{Ask}
@@ -92,9 +94,13 @@ leftLent ask l = record {
   queued = l .queued;
 }
 
--- an access was made: the three lists before it, what it saw, and the lists after it
-pub record Made (ask : Ask) (g p n : List ℕ) (r : Seen) (g′ p′ n′ : List ℕ) : Type 0 where
-  pub seen : r ≡ sees ask (sharedFrom g p n)
-  pub globals : g′ ≡ leftGlobals ask g p n
-  pub participants : p′ ≡ leftParticipants ask g p n
-  pub nodes : n′ ≡ leftNodes ask g p n
+-- what an access sees, in a step that is marked or not (document 02, No. 2): one that fails for no reason sees the value, and is not done
+abbrev pub seenBy : (marked : Bool) → Ask → Shared → Seen
+seenBy marked ask s = branch (fails marked ask) (missed (sees ask s)) (sees ask s)
+
+-- an access was made: the three lists before it, what it saw, and the lists after it. One that fails for no reason leaves every list as it was
+pub record Made (marked : Bool) (ask : Ask) (g p n : List ℕ) (r : Seen) (g′ p′ n′ : List ℕ) : Type 0 where
+  pub seen : r ≡ seenBy marked ask (sharedFrom g p n)
+  pub globals : g′ ≡ branch (fails marked ask) g (leftGlobals ask g p n)
+  pub participants : p′ ≡ branch (fails marked ask) p (leftParticipants ask g p n)
+  pub nodes : n′ ≡ branch (fails marked ask) n (leftNodes ask g p n)

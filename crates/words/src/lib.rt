@@ -4,12 +4,15 @@
 // The Rust's atomics are words of three lent lists: the global epoch, the head of the list of participants and both ends of the queue
 // in `globals`; a participant's epoch and its entry's next in its row of `participants`; a node's next in its row of `nodes`.
 //
+// A step may be marked (document 02, No. 2): then its `compare_exchange_weak` fails although the value agrees. No other access looks at the mark.
+//
 // Each promise says what the access sees, as specs/Rule of `definition` has it, and all three lists afterwards, as specs/Words has
 // them. What is required is only that the word named lies in the lists.
 use definition::Ask;
 use definition::Seen;
 use definition::Word;
 ghost use mathlib.Core.Path.{_≡_};
+ghost use mathlib.Core.Bool.{false};
 ghost use Rattle.definition.specs.Tables.{read};
 ghost use Rattle.definition.specs.Layout.{sharedFrom};
 ghost use Rattle.words.specs.Words.{named, wordIn, Written, Made};
@@ -74,7 +77,7 @@ fn compare_exchange(
 ) -> Seen
     requires { ⌜ wordIn w (now globals) (now participants) (now nodes) ⌝ }
     ensures { λ r. ⌜
-        Made (Ask.Exchange w expected new) (now (globals .entry)) (now (participants .entry)) (now (nodes .entry))
+        Made false (Ask.Exchange w expected new) (now (globals .entry)) (now (participants .entry)) (now (nodes .entry))
         r (now (globals .exit)) (now (participants .exit)) (now (nodes .exit))
         ⌝ }
 {
@@ -92,8 +95,7 @@ fn compare_exchange(
     }
 }
 
-// The same by the Rust's `compare_exchange_weak`, which here too fails only on a different value. A function of its own, since it is the
-// one exchange that may fail without cause.
+// The same by the Rust's `compare_exchange_weak`, which may fail although the word has the expected value: so it does where it is marked.
 fn compare_exchange_weak(
     globals: &mut [u64],
     participants: &mut [u64],
@@ -101,13 +103,21 @@ fn compare_exchange_weak(
     w: Word,
     expected: u64,
     new: u64,
+    marked: bool,
 ) -> Seen
     requires { ⌜ wordIn w (now globals) (now participants) (now nodes) ⌝ }
     ensures { λ r. ⌜
-        Made (Ask.ExchangeWeak w expected new) (now (globals .entry)) (now (participants .entry)) (now (nodes .entry))
+        Made marked (Ask.ExchangeWeak w expected new) (now (globals .entry)) (now (participants .entry)) (now (nodes .entry))
         r (now (globals .exit)) (now (participants .exit)) (now (nodes .exit))
         ⌝ }
 {
+    if marked {
+        let found = read_word(globals, participants, nodes, w);
+        return Seen {
+            value: found,
+            won: false,
+        };
+    }
     compare_exchange(globals, participants, nodes, w, expected, new)
 }
 
@@ -115,7 +125,7 @@ fn compare_exchange_weak(
 fn fetch_or(globals: &mut [u64], participants: &mut [u64], nodes: &mut [u64], w: Word) -> Seen
     requires { ⌜ wordIn w (now globals) (now participants) (now nodes) ⌝ }
     ensures { λ r. ⌜
-        Made (Ask.FetchOr w) (now (globals .entry)) (now (participants .entry)) (now (nodes .entry))
+        Made false (Ask.FetchOr w) (now (globals .entry)) (now (participants .entry)) (now (nodes .entry))
         r (now (globals .exit)) (now (participants .exit)) (now (nodes .exit))
         ⌝ }
 {
@@ -127,11 +137,17 @@ fn fetch_or(globals: &mut [u64], participants: &mut [u64], nodes: &mut [u64], w:
     }
 }
 
-// Makes the access that a place asks for. Returns what it saw.
-pub fn perform(globals: &mut [u64], participants: &mut [u64], nodes: &mut [u64], ask: Ask) -> Seen
+// Makes the access that a place asks for, in a step that is marked or not. Returns what it saw.
+pub fn perform(
+    globals: &mut [u64],
+    participants: &mut [u64],
+    nodes: &mut [u64],
+    ask: Ask,
+    marked: bool,
+) -> Seen
     requires { ⌜ wordIn (named ask) (now globals) (now participants) (now nodes) ⌝ }
     ensures { λ r. ⌜
-        Made ask (now (globals .entry)) (now (participants .entry)) (now (nodes .entry))
+        Made marked ask (now (globals .entry)) (now (participants .entry)) (now (nodes .entry))
         r (now (globals .exit)) (now (participants .exit)) (now (nodes .exit))
         ⌝ }
 {
@@ -151,7 +167,9 @@ pub fn perform(globals: &mut [u64], participants: &mut [u64], nodes: &mut [u64],
             }
         }
         Ask::Exchange(w, e, v) => compare_exchange(globals, participants, nodes, w, e, v),
-        Ask::ExchangeWeak(w, e, v) => compare_exchange_weak(globals, participants, nodes, w, e, v),
+        Ask::ExchangeWeak(w, e, v) => {
+            compare_exchange_weak(globals, participants, nodes, w, e, v, marked)
+        }
         Ask::FetchOr(w) => fetch_or(globals, participants, nodes, w),
     }
 }

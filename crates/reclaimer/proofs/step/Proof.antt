@@ -32,7 +32,7 @@ same-length-5 : tie.Need-same-length-5
 same-length-5 c = search needs
 
 returns : tie.Need-returns
-returns c = step-refuses _ _ _ _ _ _ (c .before .before .before .check-step .ensures) _ (c .before .enum-told2 .given .1) _ (c .refused .ensures)
+returns c = step-refuses _ _ _ _ _ _ (c .before .before .before .check-step .ensures) _ _ (c .before .enum-told2 .given .1) _ (c .refused .ensures)
 
 take-step-requires : tie.Need-take-step-requires
 take-step-requires c κs = may-step _ _ _ _ _ _ (c .before .before .before .before .before .before .before .before .check-step .ensures) (c .before .before .before .before .before .before .enum-told .given .1)
@@ -56,7 +56,13 @@ same-length-11 : tie.Need-same-length-11
 same-length-11 c = search needs
 
 returns-2 : tie.Need-returns-2
-returns-2 c = stepped _ _ _ _ _ _ (c .before .before .before .before .before .before .before .before .before .before .before .before .before .before .before .before .before .before .before .before .before .check-step .ensures) (c .before .before .before .before .before .before .before .before .before .before .before .before .before .before .before .before .before .before .before .enum-told .given .1) _ _ _ (c .before .before .before .before .before .before .before .before .before .before .before .before .take-step .ensures)
+returns-2 c =
+    let after = c .before .before .before .before in
+    let later = after .before .before .before .before in
+    let taken = later .before .before .before .before in
+    let lent = taken .before .before .before .before in
+    let told = lent .before .before .before in
+    stepped _ _ _ _ _ _ (told .before .before .check-step .ensures) _ (told .enum-told .given .1) _ _ _ (taken .take-step .ensures)
 
 pub step-spec : {M : Type 1} → statement M
 step-spec =

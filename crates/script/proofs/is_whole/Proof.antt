@@ -15,7 +15,7 @@ shared-slice-read-action c = search needs
 
 returns-2 : tie.Need-returns-2
 unfolding whole
-returns-2 c = rw (eq-eqb _ 8 (c .before .before .if1 .left), lt-leb _ 8 (c .if2 .taken))
+returns-2 c = rw (eq-eqb _ 8 (c .before .before .if1 .left), lt-leb _ 9 (c .if2 .taken))
 
 shared-slice-read-if3 : tie.Need-shared-slice-read-if3
 shared-slice-read-if3 c = search needs
@@ -23,7 +23,7 @@ shared-slice-read-if3 c = search needs
 returns-3 : tie.Need-returns-3
 unfolding whole
 returns-3 c =
-    rw (eq-eqb _ 8 (c .before .before .before .before .if1 .left), le-leb _ 8 (c .before .before .if2 .left), ne-eqb _ 0 (c .if3 .taken))
+    rw (eq-eqb _ 8 (c .before .before .before .before .if1 .left), le-leb _ 9 (c .before .before .if2 .left), ne-eqb _ 0 (c .if3 .taken))
 
 shared-slice-read-if4 : tie.Need-shared-slice-read-if4
 shared-slice-read-if4 c = search needs
@@ -31,7 +31,10 @@ shared-slice-read-if4 c = search needs
 returns-4 : tie.Need-returns-4
 unfolding whole
 returns-4 c =
-    rw (eq-eqb _ 8 (c .before .before .before .before .before .before .if1 .left), le-leb _ 8 (c .before .before .before .before .if2 .left), eq-eqb _ 0 (c .before .before .if3 .left), ne-eqb _ 0 (c .if4 .taken))
+    let third = c .before .before in
+    let second = third .before .before in
+    let first = second .before .before in
+    rw (eq-eqb _ 8 (first .if1 .left), le-leb _ 9 (second .if2 .left), eq-eqb _ 0 (third .if3 .left), ne-eqb _ 0 (c .if4 .taken))
 
 token-in-requires : tie.Need-token-in-requires
 token-in-requires c κs = search needs
@@ -51,11 +54,15 @@ both-requires c κs = search needs
 returns-5 : tie.Need-returns-5
 unfolding whole
 returns-5 c =
+    let fourth = c .before .before .before .before .before in
+    let third = fourth .before .before in
+    let second = third .before .before in
+    let first = second .before .before in
     rw (
-      eq-eqb _ 8 (c .before .before .before .before .before .before .before .before .before .before .before .if1 .left),
-      le-leb _ 8 (c .before .before .before .before .before .before .before .before .before .if2 .left),
-      eq-eqb _ 0 (c .before .before .before .before .before .before .before .if3 .left),
-      eq-eqb _ 0 (c .before .before .before .before .before .if4 .left),
+      eq-eqb _ 8 (first .if1 .left),
+      le-leb _ 9 (second .if2 .left),
+      eq-eqb _ 0 (third .if3 .left),
+      eq-eqb _ 0 (fourth .if4 .left),
       ← c .before .before .before .before .token-in .ensures,
       ← c .before .before .before .pick .ensures,
       ← c .before .pick2 .ensures,

@@ -1,6 +1,5 @@
--- `name` meets its contract: each arm is the event of its number, and a number of no arm is above 8. Assumes nothing.
+-- `name` meets its contract: each arm is the event of its number, and a number of no arm is above 9. Assumes nothing.
 use borrow.Author.Needs.{zero≤}
-use Rattle.script.proofs.Laws.{past}
 use borrow.Author.Tests.{lt-leb}
 use Rattle.definition.specs.Base.{branch}
 use Rattle.definition.specs.Schedule.{actionOf}
@@ -46,11 +45,16 @@ unfolding named branch actionFor actionOf
 returns-9 c = rw (c .match .keys9)
 
 returns-10 : tie.Need-returns-10
+unfolding named branch actionFor actionOf
+returns-10 c = rw (c .match .keys10)
+
+returns-11 : tie.Need-returns-11
 unfolding named branch
-returns-10 c =
+returns-11 c =
     let r = c .match .rest in
-    let five = past 4 (past 3 (past 2 (past 1 (past 0 zero≤ (r .0 .0 .0 .0 .0 .0 .0 .0 .1)) (r .0 .0 .0 .0 .0 .0 .0 .1)) (r .0 .0 .0 .0 .0 .0 .1)) (r .0 .0 .0 .0 .0 .1)) (r .0 .0 .0 .0 .1) in
-    rw (lt-leb (c .before .args .action) 8 (past 8 (past 7 (past 6 (past 5 five (r .0 .0 .0 .1)) (r .0 .0 .1)) (r .0 .1)) (r .1)))
+    let f = r .0 .0 .0 .0 .0 in
+    let five = past 4 (past 3 (past 2 (past 1 (past 0 zero≤ (f .0 .0 .0 .0 .1)) (f .0 .0 .0 .1)) (f .0 .0 .1)) (f .0 .1)) (f .1) in
+    rw (lt-leb (c .before .args .action) 9 (past 9 (past 8 (past 7 (past 6 (past 5 five (r .0 .0 .0 .0 .1)) (r .0 .0 .0 .1)) (r .0 .0 .1)) (r .0 .1)) (r .1)))
 
 pub name-spec : {M : Type 1} → statement M
 name-spec =
@@ -65,4 +69,5 @@ name-spec =
     returns-7
     returns-8
     returns-9
-    returns-10)
+    returns-10
+    returns-11)

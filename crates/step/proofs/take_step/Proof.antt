@@ -25,14 +25,41 @@ perform-requires : tie.Need-perform-requires
 perform-requires c κs = perform-ok _ _ _ _ _ (c .before .before .before .before .before .before .before .before .before .before .before .before .before .before .before .before .pre) _ (c .before .before .before .before .before .before .before .before .load .ensures) _ (c .before .before .before .asks-at .ensures)
 
 seal-of-requires : tie.Need-seal-of-requires
-seal-of-requires c κs = nodes-ok _ _ _ _ _ (c .before .before .before .before .before .before .before .before .before .before .before .before .before .before .before .before .before .before .before .before .before .before .before .before .pre) _ (c .before .before .before .before .before .before .before .before .before .before .before .before .before .before .before .before .load .ensures) _ (c .before .before .before .before .before .before .before .before .before .before .before .asks-at .ensures) _ (c .before .before .before .before .before .before .before .perform .ensures .nodes)
+seal-of-requires c κs =
+    let seeing = c .before .before .before .before in
+    let made = seeing .before .before .before in
+    let asked = made .before .before .before .before in
+    let loaded = asked .before .before .before .before .before in
+    let entry = loaded .before .before .before .before in
+    nodes-ok _ _ _ _ _ (entry .before .before .before .before .pre) _ (loaded .load .ensures) _ (asked .asks-at .ensures) _ _ _ _ _ (made .perform .ensures)
 
 follows-at-requires : tie.Need-follows-at-requires
 follows-at-requires c κs = search needs
 
 follow-requires : tie.Need-follow-requires
-follow-requires c κs = may-follow _ _ _ _ _ (c .before .before .before .before .before .before .before .before .before .before .before .before .before .before .before .before .before .before .before .before .before .before .before .before .before .before .before .before .before .before .before .before .pre) _ _ _ _ _ _ _ _ _ _ _
-    (record { loaded = c .before .before .before .before .before .before .before .before .before .before .before .before .before .before .before .before .before .before .before .before .before .before .before .before .load .ensures; from = c .before .before .before .before .before .before .before .before .before .before .before .before .before .before .before .before .before .before .before .before .before .before .before .node-bits-at .ensures; words = c .before .before .before .before .before .before .before .before .before .before .before .before .before .before .before .before .before .before .before .before .before .before .bit-words .ensures; first = c .before .before .before .before .before .before .before .before .before .before .before .before .before .before .before .before .before .before .before .before .first-free .ensures; asked = c .before .before .before .before .before .before .before .before .before .before .before .before .before .before .before .before .before .before .before .asks-at .ensures; made = c .before .before .before .before .before .before .before .before .before .before .before .before .before .before .before .perform .ensures; sealed = c .before .before .before .before .before .before .before .seal-of .ensures; then = c .before .before .before .before .before .before .follows-at .ensures })
+follow-requires c κs =
+    let lent = c .before .before .before .before in
+    let then = lent .before .before in
+    let sealed = then .before in
+    let seeing = sealed .before .before .before .before .before in
+    let made = seeing .before .before .before in
+    let asked = made .before .before .before .before in
+    let first = asked .before in
+    let words = first .before .before in
+    let from = words .before in
+    let loaded = from .before in
+    let entry = loaded .before .before .before .before in
+    may-follow _ _ _ _ _ _ (entry .before .before .before .before .pre) _ _ _ _ _ _ _ _ _ _ _
+    (record {
+      loaded = loaded .load .ensures;
+      from = from .node-bits-at .ensures;
+      words = words .bit-words .ensures;
+      first = first .first-free .ensures;
+      asked = asked .asks-at .ensures;
+      made = made .perform .ensures;
+      sealed = sealed .seal-of .ensures;
+      then = then .follows-at .ensures;
+    })
 
 same-length : tie.Need-same-length
 same-length c = search needs
@@ -53,9 +80,33 @@ same-length-6 : tie.Need-same-length-6
 same-length-6 c = search needs
 
 returns : tie.Need-returns
-returns c = leaves-step _ _ _ _ _ (c .before .before .before .before .before .before .before .before .before .before .before .before .before .before .before .before .before .before .before .before .before .before .before .before .before .before .before .before .before .before .before .before .before .before .before .before .before .before .before .before .before .before .before .before .before .pre) _ _ _ _ _ _ _ _ _ _ _
-    (record { loaded = c .before .before .before .before .before .before .before .before .before .before .before .before .before .before .before .before .before .before .before .before .before .before .before .before .before .before .before .before .before .before .before .before .before .before .before .before .before .load .ensures; from = c .before .before .before .before .before .before .before .before .before .before .before .before .before .before .before .before .before .before .before .before .before .before .before .before .before .before .before .before .before .before .before .before .before .before .before .before .node-bits-at .ensures; words = c .before .before .before .before .before .before .before .before .before .before .before .before .before .before .before .before .before .before .before .before .before .before .before .before .before .before .before .before .before .before .before .before .before .before .before .bit-words .ensures; first = c .before .before .before .before .before .before .before .before .before .before .before .before .before .before .before .before .before .before .before .before .before .before .before .before .before .before .before .before .before .before .before .before .before .first-free .ensures; asked = c .before .before .before .before .before .before .before .before .before .before .before .before .before .before .before .before .before .before .before .before .before .before .before .before .before .before .before .before .before .before .before .before .asks-at .ensures; made = c .before .before .before .before .before .before .before .before .before .before .before .before .before .before .before .before .before .before .before .before .before .before .before .before .before .before .before .before .perform .ensures; sealed = c .before .before .before .before .before .before .before .before .before .before .before .before .before .before .before .before .before .before .before .before .seal-of .ensures; then = c .before .before .before .before .before .before .before .before .before .before .before .before .before .before .before .before .before .before .before .follows-at .ensures })
-    _ _ _ _ _ _ _ (c .before .before .before .before .before .before .before .before .before .before .before .before .follow .ensures) (λ j. c .before .before .before .before .before .before .before .before .before .before .slice-known10 .given j .fits)
+returns c =
+    let kept = c .before .before .before .before .before in
+    let fits = kept .before .before .before .before .before in
+    let done = fits .before .before in
+    let lent = done .before .before .before .before in
+    let then = lent .before .before .before in
+    let sealed = then .before in
+    let seeing = sealed .before .before .before .before .before in
+    let made = seeing .before .before .before in
+    let asked = made .before .before .before .before in
+    let first = asked .before in
+    let words = first .before .before in
+    let from = words .before in
+    let loaded = from .before in
+    let entry = loaded .before .before .before .before in
+    leaves-step _ _ _ _ _ _ (entry .before .before .before .before .pre) _ _ _ _ _ _ _ _ _ _ _
+    (record {
+      loaded = loaded .load .ensures;
+      from = from .node-bits-at .ensures;
+      words = words .bit-words .ensures;
+      first = first .first-free .ensures;
+      asked = asked .asks-at .ensures;
+      made = made .perform .ensures;
+      sealed = sealed .seal-of .ensures;
+      then = then .follows-at .ensures;
+    })
+    _ _ _ _ _ _ _ (done .follow .ensures) (λ j. fits .slice-known10 .given j .fits)
 
 pub take-step-spec : {M : Type 1} → statement M
 take-step-spec =

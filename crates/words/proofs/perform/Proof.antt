@@ -1,6 +1,8 @@
 -- `perform` meets its contract: each kind of access is made by its own function, or is a read or a store alone. Assumes nothing.
 use borrow.Author.Needs.{needs}
-use Rattle.words.proofs.Accesses.{loaded, stored}
+use mathlib.Core.Path.{refl}
+use Rattle.definition.specs.Rule.{isWeak}
+use Rattle.words.proofs.Accesses.{unmarked, loaded, stored}
 use Rattle.words.proofs.perform.Statement.{statement}
 use Rattle.words.proofs.perform.Tie as tie
 
@@ -44,7 +46,8 @@ same-length-3 : tie.Need-same-length-3
 same-length-3 c = search needs
 
 returns : tie.Need-returns
-returns c = rw (c .before .before .before .before .before .ask .given .1) (loaded _ _ _ _ _ (c .read-word .ensures))
+unfolding isWeak
+returns c = rw (c .before .before .before .before .before .ask .given .1) (unmarked _ _ _ _ _ _ _ _ _ refl (loaded _ _ _ _ _ (c .read-word .ensures)))
 
 same-length-4 : tie.Need-same-length-4
 same-length-4 c = search needs
@@ -56,9 +59,10 @@ same-length-6 : tie.Need-same-length-6
 same-length-6 c = search needs
 
 returns-2 : tie.Need-returns-2
+unfolding isWeak
 returns-2 c =
     let d = c .before .before .before .before .before .before in
-    rw (d .before .before .before .before .before .ask2 .given .1) (stored _ _ _ _ _ _ _ _ (d .write-word .ensures))
+    rw (d .before .before .before .before .before .ask2 .given .1) (unmarked _ _ _ _ _ _ _ _ _ refl (stored _ _ _ _ _ _ _ _ (d .write-word .ensures)))
 
 same-length-7 : tie.Need-same-length-7
 same-length-7 c = search needs
@@ -70,9 +74,10 @@ same-length-9 : tie.Need-same-length-9
 same-length-9 c = search needs
 
 returns-3 : tie.Need-returns-3
+unfolding isWeak
 returns-3 c =
     let d = c .before .before .before .before .before .before in
-    rw (d .before .before .before .before .before .ask3 .given .1) (d .compare-exchange .ensures)
+    rw (d .before .before .before .before .before .ask3 .given .1) (unmarked _ _ _ _ _ _ _ _ _ refl (d .compare-exchange .ensures))
 
 same-length-10 : tie.Need-same-length-10
 same-length-10 c = search needs
@@ -98,9 +103,10 @@ same-length-15 : tie.Need-same-length-15
 same-length-15 c = search needs
 
 returns-5 : tie.Need-returns-5
+unfolding isWeak
 returns-5 c =
     let d = c .before .before .before .before .before .before in
-    rw (d .before .before .before .before .before .ask5 .given .1) (d .fetch-or .ensures)
+    rw (d .before .before .before .before .before .ask5 .given .1) (unmarked _ _ _ _ _ _ _ _ _ refl (d .fetch-or .ensures))
 
 pub perform-spec : {M : Type 1} → statement M
 perform-spec =
