@@ -1,13 +1,32 @@
 """Wrong definitions: small changes of crates/definition/specs, each of the right shape. `teeth` gives them to the prover, `clauses.py` plays them.
 
-Of each: its name, the change in words, clauses of crates/theorems/specs/Statement that it breaks (`clauses.py` confirms them), and the edits: a
-file of crates/definition, a text that stands in it once, and what stands there instead. An edit of proofs/ is there where a law of
-crates/definition still holds and its proof goes by the form of the changed line."""
+Of each: its name, the change in words, clauses that it breaks (`clauses.py` confirms them), and the edits: a file of crates/definition, or of another
+crate where that stands before it, a text that stands in it once, and what stands there instead. An edit of proofs/ is there where a law still holds
+and its proof goes by the form of the changed line. The clauses are those of crates/theorems/specs/Statement; the last is that of crates/alone."""
 from collections import namedtuple
 
 Change = namedtuple("Change", "name words breaks edits")
 
-CLAUSES = ("balance", "once", "notEarly", "guarded", "neverDamaged", "order")
+CLAUSES = ("balance", "once", "notEarly", "guarded", "neverDamaged", "order", "alone")
+
+# `help-same-node`, of crates/theorems, proofs/HeldNodes: a node with a next is not ahead of the tail, which is the last or the last but one
+HELPED = """(λ won wrote. on-holds (Place.Push f (PushAt.Next new onto)) o (then-stays f ht, helped)),
+          (λ lost wrote. on-holds (Place.Push f (PushAt.Next new onto)) o (then-stays f ht, helped)),
+        )
+          where
+            behind : (b : Bool) → leb (g .pos (onto .0)) (g .pos (tailOf (m .shared))) ≡ b → g .pos (onto .0) ≤ g .pos (tailOf (m .shared))
+            behind true e = leb-true (g .pos (onto .0)) (g .pos (tailOf (m .shared))) e
+            behind false e =
+                let lt = leb-false (g .pos (onto .0)) (g .pos (tailOf (m .shared))) e in
+                let to = goes-to line (onto .0) (next .0) (h .0 .0) (h .0 .1 .0) (omega arith) (h .1) in
+                let inr : next .0 < M = rw (h .1, index-link (next .0)) at (next-in (onto .0) (h .0 .0) (rw (h .1) (link-not-null (next .0)))) in
+                let le = line .posLe (next .0) inr (to .0) in
+                let near = line .near in
+                let one = to .1 in
+                absurd (omega arith)
+
+            helped : HoldsPush M m′ g′ (g .gpin d) (PushAt.Next new onto)
+            helped = unfold HoldsPush SafeNode in (safe-stays (onto .0) (h .0), behind-tail (onto .0) (h .0 .1 .0) (behind _ refl))"""
 
 CHANGES = [
     # ---- when a bag expires, and by what
@@ -75,6 +94,33 @@ CHANGES = [
         ("specs/Queue", "(λ w. on (Place.Pop p PopAt.Head) o)\n", "(λ w. on (Place.Pop p (PopAt.Tail head next)) o)\n")]),
     Change("head-at-exchange", "the old head is retired, and the bag freed, at the exchange", ("order",), [
         ("specs/Queue", "(on (Place.Pop p (PopAt.Tail head next)) o)", "(defer (Deferring.Node p head next) o)")]),
+    # ---- going on after a loss: nothing is freed early, lost or damaged by these, and crates/theorems accepts them; but somebody is never done
+    Change("lost-unlink-same", "a walk that lost its unlink goes on with the same entry", ("alone",), [
+        ("specs/List", "(walk t (c .pred) (pointee w) o)", "(walk t (c .pred) (Ptr.At (c .curr)) o)"),
+        ("proofs/Kept", "(walk-kept t (c .pred) (pointee (seen .value)) o (h .0 .0) (pointee-in (seen .value) w))",
+         "(walk-kept t (c .pred) (Ptr.At (c .curr)) o (h .0 .0) (unfold PtrIn in (h .0 .1)))"),
+        ("theorems/proofs/HeldSlots", "(pointee w) o pred (links-safe st (pointee w) (pred-links b (c .pred) (holds .0 .0) plain))",
+         "(Ptr.At (c .curr)) o pred (st .safe (c .curr .0) (holds .0 .1))"),
+        ("theorems/proofs/HeldSlots", "SlotsAt SlotsThen holdsSlots HoldsWalk\n    own-slots", "SlotsAt SlotsThen holdsSlots HoldsWalk SafePtr\n    own-slots"),
+        ("theorems/proofs/Walks", "(pointee (read (predWord (r .pred)) s)) o (λ lt.\n            (pred-reached c (r .pred) (holds .0 .0) plain (h lt .0 .0) (h lt .1 .1), h lt .1 .1))",
+         "(Ptr.At (r .curr)) o (λ lt. unfold Reached in (h lt .1))")]),
+    Change("help-same-node", "a push that helped goes on with the same node, not from the tail", ("alone",), [
+        ("specs/Queue", "(link (onto .0)) (link (next .0))\n    (on (Place.Push then (PushAt.Tail new)) o)\n    (λ w. on (Place.Push then (PushAt.Tail new)) o)",
+         "(link (onto .0)) (link (next .0))\n    (on (Place.Push then (PushAt.Next new onto)) o)\n    (λ w. on (Place.Push then (PushAt.Next new onto)) o)"),
+        ("theorems/proofs/Room", "(λ _ _. on-room (Place.Push f (PushAt.Tail new)) o (push-on f (PushAt.Help new onto next) _ _ _ (h .0), tt),"
+         " λ _ _. on-room (Place.Push f (PushAt.Tail new)) o (push-on f (PushAt.Help",
+         "(λ _ _. on-room (Place.Push f (PushAt.Next new onto)) o (push-on f (PushAt.Help new onto next) _ _ _ (h .0), tt),"
+         " λ _ _. on-room (Place.Push f (PushAt.Next new onto)) o (push-on f (PushAt.Help"),
+        ("theorems/proofs/Walks", "pushes f (PushAt.Help new onto next) (PushAt.Tail new) o h,\n        λ _. pushes f (PushAt.Help new onto next) (PushAt.Tail new) o h,",
+         "pushes f (PushAt.Help new onto next) (PushAt.Next new onto) o h,\n        λ _. pushes f (PushAt.Help new onto next) (PushAt.Next new onto) o h,"),
+        ("theorems/proofs/HeldNodes", "use lib.Dec.{eqb}", "use lib.Dec.{eqb, leb}"),
+        ("theorems/proofs/HeldNodes", "eqb-false, leb-true}", "eqb-false, leb-true, leb-false}"),
+        ("theorems/proofs/HeldNodes", "(λ won wrote. on-holds (Place.Push f (PushAt.Tail new)) o (then-stays f ht, tt)),\n"
+         "          (λ lost wrote. on-holds (Place.Push f (PushAt.Tail new)) o (then-stays f ht, tt)),\n        )", HELPED)]),
+    Change("lost-pop-stays", "a pop that lost its exchange stays at its exchange", ("alone",), [
+        ("specs/Queue", "(λ w. on (Place.Pop p PopAt.Head) o)\n", "(λ w. on (Place.Pop p (PopAt.Exchange head next)) o)\n"),
+        ("theorems/proofs/HeldNodes", "(λ lost wrote. bare-holds _ (unfold Bare BareAt on in tt)),",
+         "(λ lost wrote. on-holds (Place.Pop q (PopAt.Exchange head next)) o (pop-stays q (PopAt.Exchange head next) old h)),")]),
     # ---- marked steps
     Change("marked-stores", "a link that fails for no reason stores all the same", ("neverDamaged",), [
         ("specs/Step", "(follow p (follows r (missed (sees (asks r) (t .shared)))) t) (takeStep M p t)",

@@ -5,8 +5,9 @@
 
 Each run is from a fresh start, with few participants and nodes: first some that are made, then random ones, in which participants fall asleep, mostly in
 the middle of an operation; and then half as many records again, of runs in which some steps are marked. After every record each clause of
-crates/theorems/specs/Statement is looked at, in its own words. A line says which clauses were seen broken, and after how many records in the shortest run
-that broke them. All of it takes about four minutes.
+crates/theorems/specs/Statement is looked at, in its own words; and that of crates/alone, `alone`, by steps in a copy: after every record of the made runs,
+and one in three of the others. A line says which clauses were seen broken, and after how many records in the shortest run that broke them; for the model
+without a change, also from how many states somebody was stepped alone, and the most steps that it took. All of it takes about four minutes.
 
 Exit status: 0 the model without a change breaks no clause, and each change those that changes.py says, and none where it says none; 1 not so.
 """
@@ -18,8 +19,8 @@ from itertools import islice
 
 import model
 from changes import CHANGES, CLAUSES
-from model import ACQUIRE, DEFER, FLUSH, MARKED, PIN, REGISTER, RELEASE, REPIN, STEP, UNPIN, REFUSED
-from model import CURR, EPOCH, GUARDS, HANDLES, HELD, LEFT, NEW, NEXT, OLD, ONTO, OWNER, PLACE, POPPED, PRED, SHARE, SUCC, THEN, TOKEN, WD
+from model import ACQUIRE, DEFER, FLUSH, MARKED, PIN, REGISTER, RELEASE, REPIN, STEP, UNPIN, DONE, MORE, REFUSED
+from model import CURR, EPOCH, GUARDS, HANDLES, HELD, LEFT, NEW, NEXT, NXT, OLD, ONTO, OWNER, PLACE, POPPED, PRED, SHARE, SUCC, THEN, TOKEN, WD
 
 
 # ---- the clauses
@@ -108,6 +109,30 @@ class Watched:
             return False
         nodes = self.hanging()
         return nodes is not None and [self.bag(k) for k in nodes] == list(self.queue)
+
+
+class Alone:
+    """The clause `alone`: whoever runs an operation, stepped by itself from here on, answers more until it is done, within 4N + 384 steps. From how many
+    states somebody was stepped so, and the most steps that one took."""
+
+    def __init__(self):
+        self.states, self.longest = 0, 0
+
+    def ends(self, t, i):
+        copy = type(t)(t.n, t.m, [list(words) for words in t.lists()])
+        kind, steps = MORE, 0
+        while kind == MORE and steps < 4 * t.n + 384:
+            kind, steps = copy.act(STEP, i, 0)[0], steps + 1
+        self.longest = max(self.longest, steps)
+        return kind == DONE
+
+    def holds(self, t, rng):
+        """of everybody who runs; with rng now and then, of one of them. rng is not that of the run, so the run is the same whether anybody looks or not"""
+        running = [i for i in range(t.n) if t.p[21 * i + PLACE]]
+        if rng and running:
+            running = [rng.choice(running)] if rng.randrange(3) == 0 else []
+        self.states += bool(running)
+        return all(self.ends(t, i) for i in running)
 
 
 # ---- runs
@@ -203,6 +228,15 @@ MADE_MARKED = [
     (2, 6, f"{ONE} pin 0; finish 0; repin 0; finish 0; flush 0; to 0 16; register; step 1; step 1; marked 1; finish 1; pin 1; step 1; step 1; finish 0; finish 1;"
            f" unpin 1; finish 1; release 1; finish 1; repin 0; finish 0; flush 0;{4 * ' finish 0;'}"),
 ]
+# runs that were thought of later and are played last, so that the others stay what they were
+MADE_LAST = [
+    # 0 has linked its node and not moved the tail when 1 pushes
+    (2, 6, f"{TWO} pin 0; finish 0; pin 1; finish 1; defer 0 7; defer 1 8; flush 0; to 0 27; flush 1; finish 1; finish 0"),
+    # nine bags have expired, three of six are deleted, and 1 has not moved the tail, when 0 flushes
+    (6, 16, f"{TWO}{''.join(f' register; finish {i};' for i in (2, 3, 4, 5))} pin 0; finish 0;{9 * ' defer 0 7; flush 0; finish 0;'} repin 0; finish 0; flush 0; finish 0;"
+            " repin 0; finish 0; release 2; finish 2; release 3; finish 3; release 4; finish 4; pin 1; finish 1; defer 1 8; flush 1; to 1 27;"
+            " defer 0 9; flush 0; finish 0; finish 1"),
+]
 ACTIONS = {"step": STEP, "marked": MARKED, "register": REGISTER, "release": RELEASE, "pin": PIN, "unpin": UNPIN, "repin": REPIN, "defer": DEFER, "flush": FLUSH}
 
 
@@ -219,12 +253,14 @@ def records_of(text, t):
                 steps += 1
 
 
-def watch(t, records, first):
+def watch(t, records, first, alone, rng=None):
     """a run from a fresh start; `first` gets the number of the record after which a clause is broken, if that is the fewest. How many there were"""
     t.start()
     watched, seen, number = Watched(t), set(), 0
     for number, record in enumerate(records, 1):
         broken = watched.play(*record)
+        if "alone" not in seen and not alone.holds(t, rng):
+            broken.add("alone")
         for clause in broken - seen:
             first[clause] = min(number, first.get(clause, number))
         seen |= broken
@@ -297,9 +333,12 @@ def found(t, o):
     return w, w == 2 * o[CURR] + 2
 
 
-def lost_unlink_skips(run, t, o, as_ever):
-    w, won = found(t, o)
-    return as_ever() if won or w % 2 else run.walk(o[OWNER], o[EPOCH], o[PRED], o[SUCC])
+def lost_unlink(goes_on):
+    """a walk that lost its unlink, and is not stalled, goes on with another entry"""
+    def f(run, t, o, as_ever):
+        w, won = found(t, o)
+        return as_ever() if won or w % 2 else run.walk(o[OWNER], o[EPOCH], o[PRED], goes_on(o))
+    return at(14, f)
 
 
 def slot_not_retired(run, t, o, as_ever):
@@ -339,8 +378,15 @@ def link_by_store(run, t, o, as_ever):
     return run.on(27, **carried(o, THEN, NEW, ONTO, *model.GOES_ON[o[THEN]]))
 
 
-def lost_exchange(run, t, o, as_ever):
-    return as_ever() if t.g[2] == 2 * o[OLD] + 2 else run.on(20, **carried(o, *POP))
+def help_same_node(run, t, o, as_ever):
+    if t.g[3] == 2 * o[ONTO] + 2:
+        t.g[3] = 2 * o[NXT] + 2
+    return run.on(24, **carried(o, THEN, NEW, ONTO, *model.GOES_ON[o[THEN]]))
+
+
+def lost_exchange(place):
+    """a pop that lost its exchange goes on at another place"""
+    return at(19, lambda run, t, o, as_ever: as_ever() if t.g[2] == 2 * o[OLD] + 2 else run.on(place, **carried(o, *POP)))
 
 
 def head_at_exchange(run, t, o, as_ever):
@@ -388,7 +434,7 @@ CHANGED = {
     "older-seal": after(22, seal(lambda run, t: max(0, t.g[0] - 2))),
     "pinned-passed": at(13, lambda run, t, o, as_ever: run.walk(o[OWNER], o[EPOCH], 2 * o[CURR] + 2, o[SUCC])),
     "stalled-advances": at(15, lambda run, t, o, as_ever: run.on(16, **carried(o, OWNER, EPOCH))),
-    "lost-unlink-skips": at(14, lost_unlink_skips),
+    "lost-unlink-skips": lost_unlink(lambda o: o[SUCC]),
     "pin-newer": after(5, word(lambda was: was[EPOCH] + 3)),
     "pin-no-word": after(5, word(lambda was: 0)),
     "unpin-keeps": after(9, word(lambda was: 1)),
@@ -401,8 +447,11 @@ CHANGED = {
     "slot-not-retired": at(14, slot_not_retired),
     "lost-link": at(26, lost_link),
     "link-by-store": at(26, link_by_store),
-    "lost-exchange": at(19, lost_exchange),
+    "lost-exchange": lost_exchange(20),
     "head-at-exchange": at(19, head_at_exchange),
+    "lost-unlink-same": lost_unlink(lambda o: 2 * o[CURR] + 2),
+    "help-same-node": at(25, help_same_node),
+    "lost-pop-stays": lost_exchange(19),
     "marked-stores": failing(marked_stores),
     "marked-links": failing(lambda run, t, succ: run.done(run.i)),
     "finalize-no-node": FinalizeNoNode,
@@ -412,26 +461,26 @@ CHANGED = {
 
 
 def tried(how, seed, records):
-    """runs of so many records in all; how many there were, and the clauses seen broken, each with the fewest records that broke it"""
+    """runs of so many records in all; how many there were, the clauses seen broken, each with the fewest records that broke it, and the looks at `alone`"""
     make = how if isinstance(how, type) else model.Port
     model.Run = type("Changed", (Run,), how) if isinstance(how, dict) else Run
-    first, played, runs = {}, 0, 0
+    first, played, runs, alone = {}, 0, 0, Alone()
 
     def fresh(n, m):
         return make(n, m, [[0] * k for k in model.lengths(n, m)])
 
-    for marked, made, until in ((False, MADE, records), (True, MADE_MARKED, records + records // 2)):
+    for marked, made, until in ((False, MADE, records), (True, MADE_MARKED, records + records // 2), (False, MADE_LAST, 0)):
         for n, m, text in made:
             t = fresh(n, m)
-            played, runs = played + watch(t, records_of(text, t), first), runs + 1
+            played, runs = played + watch(t, records_of(text, t), first, alone), runs + 1
         while played < until:
             rng = random.Random(f"{seed} {runs}")
             t = fresh(rng.choice((1, 2, 2, 2, 3, 3, 4)), rng.choice((3, 4, 6, 8)))
             most = min(until - played, rng.choice((150, 400, 1500)))
-            chosen = Chooser(t, rng)
-            played, runs = played + watch(t, islice(marking(chosen, rng) if marked else chosen, most), first), runs + 1
+            chosen = islice(marking(Chooser(t, rng), rng) if marked else Chooser(t, rng), most)
+            played, runs = played + watch(t, chosen, first, alone, random.Random(f"{seed} {runs} alone")), runs + 1
     model.Run = Run
-    return runs, played, first
+    return runs, played, first, alone
 
 
 def main():
@@ -445,11 +494,11 @@ def main():
         parser.error(f"no change is called {' or '.join(unknown)}; there are: {' '.join(known)}")
     as_said = True
     if not options.names:
-        runs, played, first = tried(None, options.seed, 20 * options.records)
-        print(f"{'no change':18} {played} records, {runs} runs: {shown(first)}", flush=True)
+        runs, played, first, alone = tried(None, options.seed, 20 * options.records)
+        print(f"{'no change':18} {played} records, {runs} runs: {shown(first)}; alone from {alone.states} states, {alone.longest} steps at most", flush=True)
         as_said = not first
     for name in options.names or known:
-        runs, played, first = tried(CHANGED[name], options.seed, options.records)
+        _, _, first, _ = tried(CHANGED[name], options.seed, options.records)
         said = set(known[name].breaks)
         same = said <= set(first) and bool(said) == bool(first)
         print(f"{name:18} {shown(first)}" + ("" if same else f"   NOT AS SAID: {', '.join(known[name].breaks) or 'no clause'}"), flush=True)

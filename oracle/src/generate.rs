@@ -1,5 +1,6 @@
 //! Makes schedules without refusals. The crate itself is driven while they are made, so what is allowed is always known.
 
+use crate::alone::Trials;
 use crate::arena::{ARENA, SLOTS};
 use crate::marks::Marks;
 use crate::record::*;
@@ -100,7 +101,7 @@ impl Profile {
 
 pub(crate) struct Maker {
     pub(crate) run: Run,
-    rng: Rng,
+    pub(crate) rng: Rng,
     taste: Taste,
     wild: usize,
     limit: usize,
@@ -129,7 +130,7 @@ impl Wish {
     }
 }
 
-fn maker(wish: Wish) -> Maker {
+pub(crate) fn maker(wish: Wish) -> Maker {
     let mut rng = Rng(wish.seed);
     let mut taste = wish.profile.taste();
     // Some runs are of few participants, some of the profile's full number.
@@ -149,22 +150,37 @@ pub(crate) fn nearly_full_round(seed: u64, marked: usize) -> Run {
 /// A schedule, and the run that it was made with, which may be a little longer.
 pub(crate) fn generate(wish: Wish) -> Run {
     let mut maker = maker(wish);
-    if wish.profile == Profile::NearlyFull {
-        maker.nearly_full();
-    } else {
-        while maker.goes_on() && maker.turn() {}
-    }
+    maker.fill(wish.profile);
     maker.run.log.truncate(wish.records);
     maker.run
 }
 
+/// The same with runs alone between its records, half of the time with up to N participants.
+pub(crate) fn generate_trying(wish: Wish, trials: Trials) -> Run {
+    let mut maker = maker(wish);
+    if maker.rng.chance(500) {
+        maker.taste.participants = 2 + maker.rng.below(wish.n);
+    }
+    maker.run.trials = Some(trials);
+    maker.fill(wish.profile);
+    maker.run
+}
+
 impl Maker {
+    fn fill(&mut self, profile: Profile) {
+        if profile == Profile::NearlyFull {
+            self.nearly_full();
+        } else {
+            while self.goes_on() && self.turn() {}
+        }
+    }
+
     fn goes_on(&self) -> bool {
         self.run.log.len() < self.limit
     }
 
     /// One record at least; false if none was found that is allowed.
-    fn turn(&mut self) -> bool {
+    pub(crate) fn turn(&mut self) -> bool {
         if self.rng.chance(self.wild) {
             self.wild_record();
             return true;
@@ -207,7 +223,7 @@ impl Maker {
     }
 
     /// Up to `count` defers that finish at once.
-    fn defers(&mut self, slot: usize, count: usize) {
+    pub(crate) fn defers(&mut self, slot: usize, count: usize) {
         for _ in 0..count {
             if self.run.judge.running(slot) || world::bag_len(slot) == MAX_OBJECTS {
                 return;
@@ -217,7 +233,7 @@ impl Maker {
         }
     }
 
-    fn token(&mut self) -> u32 {
+    pub(crate) fn token(&mut self) -> u32 {
         self.rng.below(1000) as u32
     }
 
@@ -318,7 +334,7 @@ impl Maker {
     }
 
     /// A whole operation, if it is allowed.
-    fn operation(&mut self, action: u8, slot: usize) -> bool {
+    pub(crate) fn operation(&mut self, action: u8, slot: usize) -> bool {
         let allowed = self.run.judge.refusal(Record::new(action, slot, 0)).is_none();
         if allowed {
             self.run.operation(action, slot, 0);

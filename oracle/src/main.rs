@@ -8,6 +8,7 @@ macro_rules! const_fn {
 }
 
 mod agree;
+mod alone;
 mod arena;
 mod coroutine;
 mod coverage;
@@ -23,9 +24,11 @@ mod primitive;
 mod record;
 mod run;
 mod seen;
+mod shrink;
 mod single;
 mod spread;
 mod state;
+mod steer;
 mod tally;
 mod worked;
 mod world;
@@ -88,10 +91,11 @@ fn main() {
             let agrees = agree::agree(arguments.number("--seed", 1), arguments.number("--records", 100_000));
             std::process::exit(i32::from(!agrees))
         }
+        Some("alone") => alone_command(arguments),
         Some("stream") => stream_command(arguments),
         Some("noise") => noise_command(arguments),
         Some("record") => record_command(arguments),
-        _ => fail("usage: oracle play|worked|generate|stream|noise|record|coverage|agree, see README.md"),
+        _ => fail("usage: oracle play|worked|generate|stream|noise|record|coverage|agree|alone, see README.md"),
     }
 }
 
@@ -179,6 +183,20 @@ fn noise_command(mut arguments: Arguments) {
     let records = arguments.number("--records", 1000);
     let bytes: Vec<u8> = (0..records).flat_map(|_| noise::record(&mut rng)).collect();
     std::io::stdout().write_all(&bytes).unwrap_or_else(|error| fail(&error.to_string()));
+}
+
+fn alone_command(mut arguments: Arguments) {
+    let asked = alone::Asked {
+        seed: arguments.number("--seed", 1),
+        states: arguments.number("--states", 4_000_000),
+        n: arguments.number("--n", 32) as usize,
+        m: arguments.number("--m", 128) as usize,
+        worst: arguments.text("--worst"),
+    };
+    if !(1..=32).contains(&asked.n) || !(2..=128).contains(&asked.m) {
+        fail("--n wants 1 to 32, --m 2 to 128");
+    }
+    std::process::exit(i32::from(!alone::alone(&asked)))
 }
 
 fn record_command(mut arguments: Arguments) {

@@ -1,5 +1,6 @@
 //! A run that is being made: records are played as they are chosen, and kept.
 
+use crate::alone::Trials;
 use crate::arena::ARENA;
 use crate::judge::{Answer, Judge, Outcome};
 use crate::marks::Marks;
@@ -12,15 +13,28 @@ pub(crate) struct Run {
     pub(crate) tally: Tally,
     /// Which of the steps that it is given become marked ones.
     pub(crate) marks: Marks,
+    /// Runs alone between its records, if any are wanted.
+    pub(crate) trials: Option<Trials>,
 }
 
 impl Run {
     pub(crate) fn start(n: usize, m: usize) -> Run {
-        Run { judge: Judge::start(n, m, false), log: Vec::new(), tally: Tally::default(), marks: Marks::none() }
+        let (judge, tally, marks) = (Judge::start(n, m, false), Tally::default(), Marks::none());
+        Run { judge, log: Vec::new(), tally, marks, trials: None }
     }
 
     pub(crate) fn play(&mut self, record: Record) -> Outcome {
         let record = self.marks.put(record, &self.judge);
+        let outcome = self.as_it_is(record);
+        if let Some(mut trials) = self.trials.take() {
+            trials.after_a_record(self);
+            self.trials = Some(trials);
+        }
+        outcome
+    }
+
+    /// Neither is a step marked nor does anyone go alone after it.
+    pub(crate) fn as_it_is(&mut self, record: Record) -> Outcome {
         self.log.push(record);
         let outcome = self.judge.play(record);
         self.tally.note(outcome.seen.as_ref(), outcome.freed.len());

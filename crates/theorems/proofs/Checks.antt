@@ -60,7 +60,7 @@ unfolding isRest
 rest-is pl e = rw e refl
 
 -- not deleted
-untagged-is : (w : ℕ) → isTagged w ≡ false → w % 2 ≡ 0
+pub untagged-is : (w : ℕ) → isTagged w ≡ false → w % 2 ≡ 0
 unfolding isTagged
 untagged-is w h = omega (arith, eqb-false (w % 2) 1 h)
 

@@ -33,6 +33,9 @@ pub mod Bags
 pub mod Tidy
 pub mod Room
 pub mod Roomy
+pub mod Chain
+pub mod Ahead
+pub mod Behind
 pub mod Ranged
 pub mod Stored
 pub mod EpochsKept

@@ -173,7 +173,7 @@ module _ (N M p : ℕ) (m : Machine) (g : Ghost) (inv : Inv N M m g) (hp : p < N
 -- ---- slots freed
 
 -- a slot that is freed is not in use, any other is used as before
-freed-ind : (P : Use → Type 0) (l : List Item) (u : Tab Use) (q : ℕ) → P Use.unused → P (u q) → P (slotsFreed l u q)
+pub freed-ind : (P : Use → Type 0) (l : List Item) (u : Tab Use) (q : ℕ) → P Use.unused → P (u q) → P (slotsFreed l u q)
 unfolding slotsFreed
 freed-ind P [] u q free kept = kept
 freed-ind P (Item.Token t ∷ l) u q free kept = freed-ind P l u q free kept

@@ -91,7 +91,7 @@ stood-first : (a : Bool) (k : ℕ) → a ≡ true → 1 ≤ branch {A = ℕ} a 0
 stood-first a k h le = let z : branch {A = ℕ} a 0 1 ≡ 0 = branch-true 0 1 h in omega arith
 
 -- the limits hold at least one participant and two nodes
-limits-say : (N M : ℕ) → withinLimits N M ≡ true → (1 ≤ N) × (2 ≤ M)
+pub limits-say : (N M : ℕ) → withinLimits N M ≡ true → (1 ≤ N) × (2 ≤ M)
 unfolding withinLimits
 limits-say N M h =
     let a = both _ _ h in
@@ -122,7 +122,7 @@ module _ (N M : ℕ) (l : Lent) (ok : startLent N M l .answer ≡ Answer.Done 0 
       let k : S.advances N M run (lentOf N M (fresh N M)) < 2 ^ 62 = rw (← start .lent) short in
       same N M (start .limits) run (fresh N M) (sound-fresh N M hN hM) (fresh-clean N M) (omega arith)
 
-  few : (run : List Event) → Short N M l run → On.advances N M (tabled run) (fresh N M) < 2 ^ 62
+  pub few : (run : List Event) → Short N M l run → On.advances N M (tabled run) (fresh N M) < 2 ^ 62
   few run short = rw (← run-same run short .advances, ← start .lent) short
 
   pub clean : (run : List Event) → Short N M l run → Clean N M (at run)

@@ -41,7 +41,7 @@ link-plain : (k : ℕ) → isTagged (link k) ≡ false
 unfolding isTagged link
 link-plain k = ne-eqb (2 * (k + 1) % 2) 1 (λ e. omega arith)
 
-link-back : (w : ℕ) → 1 ≤ w / 2 → w % 2 ≡ 0 → w ≡ link (index w)
+pub link-back : (w : ℕ) → 1 ≤ w / 2 → w % 2 ≡ 0 → w ≡ link (index w)
 unfolding link index
 link-back w h e = omega arith
 
@@ -161,7 +161,7 @@ to-linked N u k w e h = unfold ToLinked in ((rw (e, link-pointee k) at h) .1)
 
 module _ (N M : ℕ) (m : Machine) (g : Ghost) (inv : Inv N M m g) where
   -- what the word of a safe predecessor points to is in the list
-  pred-linked : (b : ℕ) (q : Pred) (k : ℕ) → SafePred N g b q → read (predWord q) (m .shared) ≡ link k → g .slotUse k ≡ Use.linked
+  pub pred-linked : (b : ℕ) (q : Pred) (k : ℕ) → SafePred N g b q → read (predWord q) (m .shared) ≡ link k → g .slotUse k ≡ Use.linked
   unfolding SafePred predWord read
   pred-linked b Pred.Head k safe e = to-linked N (g .slotUse) k (m .shared .listHead) e (inv .listed .head)
   pred-linked b (Pred.Entry q) k safe e =

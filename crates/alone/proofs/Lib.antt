@@ -1,0 +1,12 @@
+pub mod Left
+pub mod Follows
+pub mod Laws
+pub mod ListPlaces
+pub mod QueuePlaces
+pub mod Falls
+pub mod Eases
+pub mod Stepped
+pub mod Most
+pub mod Shares
+pub mod Alone
+pub mod Theorem
