@@ -114,7 +114,7 @@ CHANGES = [
         ("theorems/proofs/Walks", "pushes f (PushAt.Help new onto next) (PushAt.Tail new) o h,\n        λ _. pushes f (PushAt.Help new onto next) (PushAt.Tail new) o h,",
          "pushes f (PushAt.Help new onto next) (PushAt.Next new onto) o h,\n        λ _. pushes f (PushAt.Help new onto next) (PushAt.Next new onto) o h,"),
         ("theorems/proofs/HeldNodes", "use lib.Dec.{eqb}", "use lib.Dec.{eqb, leb}"),
-        ("theorems/proofs/HeldNodes", "eqb-false, leb-true}", "eqb-false, leb-true, leb-false}"),
+        ("theorems/proofs/HeldNodes", "eq-eqb, leb-true}", "eq-eqb, leb-true, leb-false}"),
         ("theorems/proofs/HeldNodes", "(λ won wrote. on-holds (Place.Push f (PushAt.Tail new)) o (then-stays f ht, tt)),\n"
          "          (λ lost wrote. on-holds (Place.Push f (PushAt.Tail new)) o (then-stays f ht, tt)),\n        )", HELPED)]),
     Change("lost-pop-stays", "a pop that lost its exchange stays at its exchange", ("alone",), [

@@ -29,7 +29,7 @@ use Rattle.theorems.proofs.Runs.{Sound, sound-after, sound-fresh, fresh-epoch}
 use Rattle.theorems.proofs.Late.{after-more, advances-more}
 use Rattle.theorems.proofs.Ahead.{list-few, ahead-few, inList, ahead}
 use Rattle.theorems.proofs.Types.{Item, Participant, End, Answer}
-use Rattle.alone.specs.Alone.{isMore, isDone, enough}
+use Rattle.alone.specs.Alone.{isMore, isDone, Ends, enough}
 use Rattle.alone.proofs.Laws.{listed-grows}
 use Rattle.alone.proofs.Stepped.{leftBy, falls-step, still-runs}
 use Rattle.alone.proofs.Most.{left-most}
@@ -165,13 +165,6 @@ module _ (N M p : ℕ) (places : ℕ → ℕ) where
   fewer-advances : (j k : ℕ) (t : Tables) → j ≤ k → advances N M (alone p places j) t ≤ advances N M (alone p places k) t
   fewer-advances j k t le = listed-grows (λ l. advances N M l t) (λ i. Event.steps false (places i) p) (λ l v. let e = advances-more N M l (v ∷ []) t in omega arith) j k le
 
-  -- done within so many steps
-  pub record Ends (bound : ℕ) (t : Tables) : Type 0 where
-    pub others : ℕ
-    pub within : others + 1 ≤ bound
-    pub more : (i : ℕ) → i < others → isMore (answerAt t i) ≡ true
-    pub done : isDone (answerAt t others) ≡ true
-
   module _ (hp : p < N) (long : (i : ℕ) → maxObjects ≤ places i) (bound : ℕ) (t : Tables) (h : Has N M p bound t)
       (short : G (view t) + advances N M (alone p places bound) t < 2 ^ 62) where
     small : (k : ℕ) → k ≤ bound → G (view (tablesAt t k)) < 2 ^ 62
@@ -182,7 +175,7 @@ module _ (N M p : ℕ) (places : ℕ → ℕ) where
 
     -- after k steps p is done, or each of them answered more, and the bound is as much less
     data After (k : ℕ) : Type 0 where
-      over : Ends k t → After k
+      over : Ends (answerAt t) k → After k
       goesOn : ((i : ℕ) → i < k → isMore (answerAt t i) ≡ true) → (n : ℕ) → n + k ≡ bound → Has N M p n (tablesAt t k) → After k
 
     -- one step more
@@ -200,17 +193,17 @@ module _ (N M p : ℕ) (places : ℕ → ℕ) where
     so-far (suc k) le = later k (omega arith) (so-far k (omega arith))
 
     -- and after as many as the bound it is done, for none is left
-    pub ends : Ends bound t
+    pub ends : Ends (answerAt t) bound
     ends = by (so-far bound (omega arith))
       where
-        by : After bound → Ends bound t
+        by : After bound → Ends (answerAt t) bound
         by (After.over e) = e
         by (After.goesOn more n is had) = let f = fewer N M (places bound) p n hp (long bound) (tablesAt t bound) (small bound (omega arith)) had in absurd (omega arith)
 
 -- ---- from a fresh start
 
 pub ends-run : (N M : ℕ) → 1 ≤ N → 2 ≤ M → (l : List Event) (p : ℕ) (places : ℕ → ℕ) → p < N → ((i : ℕ) → maxObjects ≤ places i)
-    → advances N M (l ++ alone p places (enough N)) (fresh N M) < 2 ^ 62 → running p (after N M l (fresh N M)) ≡ true → Ends N M p places (enough N) (after N M l (fresh N M))
+    → advances N M (l ++ alone p places (enough N)) (fresh N M) < 2 ^ 62 → running p (after N M l (fresh N M)) ≡ true → Ends (answerAt N M p places (after N M l (fresh N M))) (enough N)
 ends-run N M hN hM l p places hp long short run =
     let t = after N M l (fresh N M) in
     let e = advances-more N M l (alone p places (enough N)) (fresh N M) in

@@ -15,14 +15,13 @@ use Rattle.definition.specs.Flow.{holding, sharing}
 use Rattle.definition.specs.Queue.{sealBag, push, pop}
 use Rattle.definition.specs.Ranges.{isRest}
 use Rattle.definition.proofs.Codec.{link-not-null, index-link}
-use Rattle.definition.proofs.Kept.{not-null}
 use Rattle.theorems.proofs.Leads.{Leads}
 use Rattle.theorems.proofs.Ghost.{Ghost, headOf, tailOf}
 use Rattle.theorems.proofs.Machine.{Machine}
 use Rattle.theorems.proofs.Invariant.{HoldsPush, SafeNode}
 use Rattle.theorems.proofs.Inv.{Inv}
 use Rattle.theorems.proofs.Uses.{link-back}
-use Rattle.theorems.proofs.Nodes.{lined}
+use Rattle.theorems.proofs.Nodes.{lined, next-inside}
 use Rattle.theorems.proofs.Behind.{tail-last}
 use Rattle.theorems.proofs.Types.{Node, Ptr, Pops, Deferring, Then, PopAt, PushAt, Place, Participant, Word}
 use Rattle.alone.proofs.Left.{pushSteps, finalLeft, lag, deferLeft, thenLeft, popLeft, pushLeft, placeLeft}
@@ -51,14 +50,9 @@ module _ (N M : ℕ) (m : Machine) (g : Ghost) (inv : Inv N M m g) where
   helped onto next hn e =
       let at : tailOf S ≡ onto .0 = ap index e ∙ index-link (onto .0) in
       let hm : S .nodeNext (tailOf S) ≡ link (next .0) = ap (S .nodeNext) at ∙ hn in
-      let h = inv .ranged .queueHead in
-      let t = inv .ranged .queueTail in
-      let last = tail-last M (headOf S) (tailOf S) (S .nodeNext) (g .nodeUse) (g .pos) (g .last) (lined M m g (inv .queued)) inside (omega arith) (omega arith)
-      (rw hm (link-not-null (next .0))) in
+      let last = tail-last M (headOf S) (tailOf S) (S .nodeNext) (g .nodeUse) (g .pos) (g .last) (lined M m g (inv .queued)) (next-inside N M m g inv)
+      (let h = inv .ranged .queueHead in omega arith) (let t = inv .ranged .queueTail in omega arith) (rw hm (link-not-null (next .0))) in
       lag-none (write Word.QueueTail (link (next .0)) S) (rw (index-link (next .0)) (rw (hm, index-link (next .0)) at last))
-    where
-      inside : (n : ℕ) → n < M → isNull (S .nodeNext n) ≡ false → index (S .nodeNext n) < M
-      inside n hn d = let r = inv .ranged .nodeNext n hn .0 in let c = not-null N M (S .nodeNext n) d in omega arith
 
   -- who lost a link found a next
   set-next : (n : ℕ) → n < M → S .nodeNext n ≢ null → isNull (S .nodeNext n) ≡ false

@@ -63,7 +63,7 @@ module _ (N M : ℕ) (l : Lent) (ok : startLent N M l .answer ≡ Answer.Done 0 
       ∙ carries-step N M (start N M l ok .limits) (at N M l ok (run ++ alone p lends i)) (s .0) (clean N M l ok (run ++ alone p lends i) short) (s .1) p false (lends i) .answer
       ∙ ap (λ (t : Tables). On.does N M (On.Event.steps false (places i) p) t .answer) (at-after i)
 
-  on-lists : (bound : ℕ) → Short N M l (run ++ alone p lends bound) → T.Ends N M p places bound (at N M l ok run) → Ends N M l run p lends bound
+  on-lists : (bound : ℕ) → Short N M l (run ++ alone p lends bound) → Ends (T.answerAt N M p places (at N M l ok run)) bound → Ends (answer N M l run p lends) bound
   on-lists bound short e =
       let most = e .within in
       record {

@@ -36,25 +36,23 @@ isDone (Answer.Refused r) = false
 unfoldable pub alone : (p : ℕ) (lends : ℕ → List ℕ) (k : ℕ) → List Event
 alone p lends k = listed k (λ i. Event.steps p false (lends i))
 
--- N participants, M nodes, the lists l that were lent to `start`, a run from there; then p steps alone
-module _ (N M : ℕ) (l : Lent) (run : List Event) (p : ℕ) (lends : ℕ → List ℕ) where
-  -- the answer of the step that comes after i others
-  abbrev pub answer : ℕ → Answer
-  answer i = does N M (Event.steps p false (lends i)) (reached N M l (run ++ alone p lends i)) .answer
+-- a row of answers is done within so many: the first `others` are more, and the one after them is done
+pub record Ends (answers : ℕ → Answer) (bound : ℕ) : Type 0 where
+  pub others : ℕ
+  pub within : others + 1 ≤ bound
+  pub more : (i : ℕ) → i < others → isMore (answers i) ≡ true
+  pub done : isDone (answers others) ≡ true
 
-  -- done within so many steps: the first `others` answer more, and the one after them is done
-  pub record Ends (bound : ℕ) : Type 0 where
-    pub others : ℕ
-    pub within : others + 1 ≤ bound
-    pub more : (i : ℕ) → i < others → isMore (answer i) ≡ true
-    pub done : isDone (answer others) ≡ true
+-- N participants, M nodes, the lists l that were lent to `start`, a run from there; then p steps alone: the answer of the step that comes after i others
+abbrev pub answer : (N M : ℕ) (l : Lent) (run : List Event) (p : ℕ) (lends : ℕ → List ℕ) → ℕ → Answer
+answer N M l run p lends i = does N M (Event.steps p false (lends i)) (reached N M l (run ++ alone p lends i)) .answer
 
 -- whoever runs, and steps alone, is done within `bound N` steps
 abbrev pub EndsWithin : (bound : ℕ → ℕ) → Type 0
 EndsWithin bound = (N M : ℕ) (l : Lent) → startLent N M l .answer ≡ Answer.Done 0 0
     → (run : List Event) (p : ℕ) → p < N → running p (tablesOf N M (reached N M l run)) ≡ true
     → (lends : ℕ → List ℕ) → ((i : ℕ) → maxObjects ≤ length (lends i))
-    → Short N M l (run ++ alone p lends (bound N)) → Ends N M l run p lends (bound N)
+    → Short N M l (run ++ alone p lends (bound N)) → Ends (answer N M l run p lends) (bound N)
 
 -- the request
 abbrev pub asked : (N : ℕ) → ℕ

@@ -14,7 +14,7 @@ use Rattle.definition.specs.Links.{isNull, index}
 use Rattle.definition.proofs.Base.{both, and-intro, count-le}
 use Rattle.theorems.proofs.Ghost.{NodeUse}
 use Rattle.theorems.proofs.Queue.{Lined}
-use Rattle.theorems.proofs.Chain.{entries, ends, among, Member, Chained, upTo, up-falls, enough, walk-ends, walk-in, walk-meets}
+use Rattle.theorems.proofs.Chain.{entries, ends, among, Member, Chained, upTo, up-some, up-falls, enough, walk-ends, walk-in, walk-meets}
 
 -- ---- who is in the queue
 
@@ -56,7 +56,7 @@ behind-few M h u pos last x = count-le M _
 module _ (M h t : ℕ) (next : Tab ℕ) (u : Tab NodeUse) (pos : Tab ℕ) (last : ℕ) (q : Lined M h t next u pos last)
     (inside : (n : ℕ) → n < M → isNull (next n) ≡ false → index (next n) < M) where
   -- a node of the queue
-  abbrev In : ℕ → Type 0
+  abbrev pub In : ℕ → Type 0
   In x = (x < M) × ((u x ≡ NodeUse.placed) × (pos h ≤ pos x))
 
   -- by the tests, and back
@@ -75,7 +75,7 @@ module _ (M h t : ℕ) (next : Tab ℕ) (u : Tab NodeUse) (pos : Tab ℕ) (last 
   in-differ x y i j = q .differ x y (i .0) (j .0) (i .1 .0) (j .1 .0)
 
   -- the next of one is one link on
-  next-in : (x : ℕ) → In x → isNull (next x) ≡ false → In (index (next x)) × (pos (index (next x)) ≡ pos x + 1)
+  pub next-in : (x : ℕ) → In x → isNull (next x) ≡ false → In (index (next x)) × (pos (index (next x)) ≡ pos x + 1)
   next-in x i e =
       let from = i .1 .1 in
       let on = q .goesOn x (i .0) (i .1 .0) (omega arith) e in
@@ -96,10 +96,19 @@ module _ (M h t : ℕ) (next : Tab ℕ) (u : Tab NodeUse) (pos : Tab ℕ) (last 
         (e, omega arith);
   }
 
+  -- a node of it is one of those behind it
+  behind-some : (x : ℕ) → In x → 1 ≤ behind M h u pos last x
+  unfolding behind
+  behind-some x i = up-some M (placedFrom h u pos) (toLast pos last) x (member x i)
+
   -- behind the next there are fewer
   pub behind-falls : (x : ℕ) → In x → isNull (next x) ≡ false → behind M h u pos last (index (next x)) + 1 ≤ behind M h u pos last x
   unfolding behind
   behind-falls x i e = up-falls M (placedFrom h u pos) (toLast pos last) x (last - pos (index (next x))) (member x i) (queue-chained .leads x (member x i) e .1)
+
+  -- and where there is none but the node, it has no next
+  pub behind-none : (x : ℕ) → In x → behind M h u pos last x ≤ 1 → isNull (next x) ≡ true
+  behind-none x i le = not-eq-not {b = true} .0 (λ e. let a = behind-falls x i e in let b = behind-some (index (next x)) (next-in x i e .0) in omega arith)
 
   -- from the head on
   module _ (hh : h < M) (th : t < M) where

@@ -8,14 +8,14 @@ use mathlib.Core.Logic.{_≢_}
 use mathlib.Core.Bool.{Bool, true, false}
 use mathlib.Core.List.{List, [], _∷_}
 use mathlib.Core.Option.{Option, none, some}
-use Prim.Native.Nat.{ℕ, zero, suc, _+_, _*_, _/_, _%_, _≤_, _<_, min}
+use Prim.Native.Nat.{ℕ, zero, suc, _+_, _*_, _%_, _≤_, _<_}
 use native.Mathlib.Nat.{add-mul, one-mul, zero-mul, mul-zero}
 use native.Mathlib.Omega.{arith}
 use lib.Dec.{eqb, leb}
-use borrow.Author.Tests.{eqb-true, eqb-false, leb-true, leb-false, le-leb, lt-leb, eq-eqb, ne-eqb}
-use Rattle.definition.specs.Base.{branch, Tab, sum, count}
+use borrow.Author.Tests.{leb-true, leb-false, le-leb, lt-leb, eq-eqb, ne-eqb}
+use Rattle.definition.specs.Base.{branch, Tab, sum}
 use Rattle.definition.specs.Links.{isNull, index}
-use Rattle.definition.proofs.Base.{branch-ind, branch-true, branch-false, same?, sum-ext, count-le}
+use Rattle.definition.proofs.Base.{branch-ind, branch-true, branch-false, same?, sum-ext}
 use Rattle.definition.proofs.Within.{PlaceIn, PushIn}
 use Rattle.theorems.specs.Order.{Hangs, hanging}
 use Rattle.theorems.specs.Waiting.{times, carried, over}
@@ -25,10 +25,11 @@ use Rattle.theorems.proofs.Invariant.{Of, takenNode, oldHead, poppedNod
 use Rattle.theorems.proofs.Inv.{Inv}
 use Rattle.theorems.proofs.Queue.{Lined, spare≢placed, taken≢placed, link-index}
 use Rattle.theorems.proofs.Epochs.{of-known}
-use Rattle.theorems.proofs.Nodes.{lined, none-of}
+use Rattle.theorems.proofs.Nodes.{lined, next-inside, none-of}
 use Rattle.theorems.proofs.Uses.{is-same, is-other}
 use Rattle.theorems.proofs.Bags.{sum-none, is-none}
-use Rattle.theorems.proofs.Roomy.{count-more}
+use Rattle.theorems.proofs.Behind.{behind, behind-few}
+use Rattle.theorems.proofs.Behind as B
 use Rattle.theorems.proofs.Safety.{popped-here, popped-in}
 use Rattle.theorems.proofs.Popped.{Popped, popped-le}
 use Rattle.theorems.proofs.Types.{Item, PushAt, Place}
@@ -85,7 +86,7 @@ module _ (M : ℕ) (b : Tab ℕ) where
       first : branch {A = ℕ} (eqb n n) 1 0 + times n l ≢ 0
       first z = let e : branch {A = ℕ} (eqb n n) 1 0 ≡ 1 = branch-true {A = ℕ} 1 0 (eq-eqb n n refl) in omega arith
 
--- ---- what hangs on a node in reach: each node of a later position, once
+-- ---- what hangs on a node of the queue: each node of a later position, once
 
 -- a node counts as queued from position b on: where it stands there; not before; not where it is not placed
 queued-late : (v : NodeUse) (p b : ℕ) → v ≡ NodeUse.placed → b ≤ p → inQueue v p b ≡ 1
@@ -106,55 +107,12 @@ queued-other NodeUse.placed p b ne = absurd (ne refl)
 
 module _ {M h t : ℕ} {next : Tab ℕ} {u : Tab NodeUse} {pos : Tab ℕ} {last : ℕ} (q : Lined M h t next u pos last)
     (within : (x : ℕ) → x < M → isNull (next x) ≡ false → index (next x) < M) where
-  -- in reach
+  -- a node of the queue
   abbrev In : ℕ → Type 0
-  In x = (x < M) × ((u x ≡ NodeUse.placed) × (min (pos h) (pos t) ≤ pos x))
+  In x = B.In M h t next u pos last q within x
 
-  -- the next of a node in reach
   next-in : (x : ℕ) → In x → isNull (next x) ≡ false → In (index (next x)) × (pos (index (next x)) ≡ pos x + 1)
-  next-in x i e =
-      let k = q .goesOn x (i .0) (i .1 .0) (i .1 .1) e in
-      let p = k .1 in
-      let a = i .1 .1 in
-      ((within x (i .0) e, (k .0, omega arith)), p)
-
-  -- the nodes from a position on, and how many they are
-  unfoldable later : ℕ → Tab Bool
-  later b = λ x. eqb (inQueue (u x) (pos x) b) 1
-
-  unfoldable ahead : ℕ → ℕ
-  ahead x = count M (later (pos x + 1))
-
-  later-mono : (x b : ℕ) → later (b + 1) x ≡ true → later b x ≡ true
-  unfolding later inQueue
-  later-mono x b = by (u x)
-    where
-      by : (v : NodeUse) → eqb (inQueue v (pos x) (b + 1)) 1 ≡ true → eqb (inQueue v (pos x) b) 1 ≡ true
-      by NodeUse.spare e = e
-      by NodeUse.taken e = e
-      by NodeUse.placed e = branch-ind (λ (k : ℕ). eqb k 1 ≡ true) (leb b (pos x)) (λ _. refl)
-          (λ z. let lt = leb-false b (pos x) z in
-          let none : branch {A = ℕ} (leb (b + 1) (pos x)) 1 0 ≡ 0 = branch-false {A = ℕ} 1 0 (lt-leb (b + 1) (pos x) (omega arith)) in
-          let one : branch {A = ℕ} (leb (b + 1) (pos x)) 1 0 ≡ 1 = eqb-true (branch {A = ℕ} (leb (b + 1) (pos x)) 1 0) 1 e in absurd (omega arith))
-
-  -- the next of x is one more ahead of it
-  fewer-ahead : (x : ℕ) → In x → (e : isNull (next x) ≡ false) → ahead (index (next x)) + 1 ≤ ahead x
-  unfolding ahead later
-  fewer-ahead x i e =
-      let z = index (next x) in
-      let k = next-in x i e in
-      let on : pos z ≡ pos x + 1 = k .1 in
-      rw (← on) (count-more M (later (pos z + 1)) (later (pos z)) z (k .0 .0)
-      (ap (λ (n : ℕ). eqb n 1) (queued-early (u z) (pos z) (pos z + 1) (omega arith))) (ap (λ (n : ℕ). eqb n 1) (queued-late (u z) (pos z) (pos z) (k .0 .1 .0) (omega arith)))
-      (λ y _ w. later-mono y (pos z) w))
-
-  -- where nothing is ahead the queue ends, and at its end nothing is ahead
-  ends-now : (x : ℕ) → In x → ahead x ≤ 0 → isNull (next x) ≡ true
-  ends-now x i le = go (isNull (next x)) refl
-    where
-      go : (b : Bool) → isNull (next x) ≡ b → isNull (next x) ≡ true
-      go true e = e
-      go false e = let k = fewer-ahead x i e in absurd (omega arith)
+  next-in = B.next-in M h t next u pos last q within
 
   none-ahead : (x y : ℕ) → In x → y < M → isNull (next x) ≡ true → 0 ≡ inQueue (u y) (pos y) (pos x + 1)
   none-ahead x y i hy e = by (u y) refl
@@ -208,12 +166,12 @@ module _ {M h t : ℕ} {next : Tab ℕ} {u : Tab NodeUse} {pos : Tab ℕ} {last 
                   queued-early NodeUse.placed (pos y) (pos z + 1) lt ∙ sym (queued-early NodeUse.placed (pos y) (pos x + 1) (omega arith))
 
   -- how often y hangs on x: once where it stands later, else not
-  hangs-once : (k x y : ℕ) → In x → ahead x ≤ k → y < M → times y (hanging k next x) ≡ inQueue (u y) (pos y) (pos x + 1)
+  hangs-once : (k x y : ℕ) → In x → behind M h u pos last x ≤ k + 1 → y < M → times y (hanging k next x) ≡ inQueue (u y) (pos y) (pos x + 1)
   unfolding hanging times
-  hangs-once zero x y i le hy = none-ahead x y i hy (ends-now x i le)
+  hangs-once zero x y i le hy = none-ahead x y i hy (B.behind-none M h t next u pos last q within x i (omega arith))
   hangs-once (suc k) x y i le hy = branch-ind (λ (l : List ℕ). times y l ≡ inQueue (u y) (pos y) (pos x + 1)) (isNull (next x))
       (λ e. none-ahead x y i hy e)
-      (λ e. let f = fewer-ahead x i e in
+      (λ e. let f = B.behind-falls M h t next u pos last q within x i e in
       let r = hangs-once k (index (next x)) y (next-in x i e .0) (omega arith) hy in
       let s = one-step x y i hy e in omega arith)
 
@@ -227,18 +185,13 @@ module _ {M h t : ℕ} {next : Tab ℕ} {u : Tab NodeUse} {pos : Tab ℕ} {last 
       (λ ns. hangs-within k (index (next x)) y (next-in x i e .0) (λ z. ne (let a : branch {A = ℕ} (eqb y (index (next x))) 1 0 ≡ 0 = branch-false {A = ℕ} 1 0 (ne-eqb y (index (next x)) ns) in omega arith))))
 
   -- and it is what hangs, to the end
-  hangs-whole : ((x : ℕ) → x < M → next x % 2 ≡ 0) → (k x : ℕ) → In x → ahead x ≤ k → Hangs next x (hanging k next x)
+  hangs-whole : ((x : ℕ) → x < M → next x % 2 ≡ 0) → (k x : ℕ) → In x → behind M h u pos last x ≤ k + 1 → Hangs next x (hanging k next x)
   unfolding hanging Hangs
-  hangs-whole even zero x i le = ends-now x i le
+  hangs-whole even zero x i le = B.behind-none M h t next u pos last q within x i (omega arith)
   hangs-whole even (suc k) x i le = branch-ind (λ (l : List ℕ). Hangs next x l) (isNull (next x))
       (λ e. e)
-      (λ e. let f = fewer-ahead x i e in
+      (λ e. let f = B.behind-falls M h t next u pos last q within x i e in
       (link-index (next x) e (even x (i .0)), hangs-whole even k (index (next x)) (next-in x i e .0) (omega arith)))
-
-  -- M nodes are enough
-  few-ahead : (x : ℕ) → ahead x ≤ M
-  unfolding ahead
-  few-ahead x = count-le M (later (pos x + 1))
 
 -- ---- a node that one participant names
 
@@ -291,19 +244,22 @@ module _ (N M : ℕ) (m : Machine) (g : Ghost) (inv : Inv N M m g) (b : Popped N
   line = lined M m g (inv .queued)
 
   within : (x : ℕ) → x < M → isNull (m .shared .nodeNext x) ≡ false → index (m .shared .nodeNext x) < M
-  unfolding isNull index
-  within x hx e = let ne : m .shared .nodeNext x / 2 ≡ 0 → ⊥ = eqb-false (m .shared .nodeNext x / 2) 0 e in let k = inv .ranged .nodeNext x hx in omega arith
+  within = next-inside N M m g inv
 
   head-here : In line within (headOf (m .shared))
   unfolding index
   head-here = let h = inv .ranged .queueHead in (omega arith, (line .head, omega arith))
+
+  -- M nodes are enough
+  few : behind M (headOf (m .shared)) (g .nodeUse) (g .pos) (g .last) (headOf (m .shared)) ≤ M + 1
+  few = let le = behind-few M (headOf (m .shared)) (g .nodeUse) (g .pos) (g .last) (headOf (m .shared)) in omega arith
 
   abbrev hung : List ℕ
   hung = hanging M (m .shared .nodeNext) (headOf (m .shared))
 
   -- what is walked from the head is what hangs there
   pub hangs-hanging : Hangs (m .shared .nodeNext) (headOf (m .shared)) hung
-  hangs-hanging = hangs-whole line within (λ x hx. inv .ranged .nodeNext x hx .1) M (headOf (m .shared)) head-here (few-ahead line within (headOf (m .shared)))
+  hangs-hanging = hangs-whole line within (λ x hx. inv .ranged .nodeNext x hx .1) M (headOf (m .shared)) head-here few
 
   -- who carries a node, by its use
   taken-of : (q : ℕ) → q < N → (n : ℕ) → takenNode (m .own q .place) ≡ some n → g .nodeUse n ≡ NodeUse.taken
@@ -343,7 +299,7 @@ module _ (N M : ℕ) (m : Machine) (g : Ghost) (inv : Inv N M m g) (b : Popped N
     counted n hn = by (g .nodeUse n) refl
       where
         hangs : times n hung ≡ inQueue (g .nodeUse n) (g .pos n) (g .pos (headOf (m .shared)) + 1)
-        hangs = hangs-once line within M (headOf (m .shared)) n head-here (few-ahead line within (headOf (m .shared))) hn
+        hangs = hangs-once line within M (headOf (m .shared)) n head-here few hn
 
         by : (w : NodeUse) → g .nodeUse n ≡ w → (takers n + poppers N m n + times n hung) * v n ≡ v n
         by NodeUse.spare e = times-none _ (v n) (empty n (inv .bagged .spare n hn e))

@@ -5,10 +5,10 @@
 use mathlib.Core.Path.{_≡_, refl, ap, sym, _∙_}
 use mathlib.Core.Logic.{_≢_}
 use mathlib.Core.Bool.{Bool, true, false, _&&_, not, true≢false}
-use Prim.Native.Nat.{ℕ, _+_, _/_, _^_, _≤_, _<_}
+use Prim.Native.Nat.{ℕ, _+_, _^_, _≤_, _<_}
 use native.Mathlib.Omega.{arith}
 use lib.Dec.{eqb}
-use borrow.Author.Tests.{eq-eqb, eqb-false, leb-true}
+use borrow.Author.Tests.{eq-eqb, leb-true}
 use Rattle.epoch.specs.Epoch.{isPinned, unpinned}
 use Rattle.epoch.proofs.Laws.{expiry}
 use Rattle.definition.specs.Base.{branch, Tab, put, least}
@@ -32,7 +32,7 @@ use Rattle.theorems.proofs.Change.{Change}
 use Rattle.theorems.proofs.Inv.{Inv, Steps, Calls, Registers, ruleOf, leftOf, afterOf, goesGhost, stepped, steppedGhost, called, calledGhost, registered, registeredGhost}
 use Rattle.theorems.proofs.Linked.{under-pin, followed-own, step-change, stepped-own}
 use Rattle.theorems.proofs.Queue.{Lined, spare≢placed, link-index, goes-to}
-use Rattle.theorems.proofs.Nodes.{Onward, lined, head-in, tail-in, onward-step, step-wrote, onward-call, onward-register}
+use Rattle.theorems.proofs.Nodes.{Onward, lined, next-inside, head-in, tail-in, onward-step, step-wrote, onward-call, onward-register}
 use Rattle.theorems.proofs.QueuePlaces.{NodesThen, NodesAt, then-of, inQueue?, by-queue, BareThen, BareAt, bare-nodes, out-bare, queue-under-pin, Bare, collected-bare, placed-bare, defer-bare, bare-after, bare-begins}
 use Rattle.theorems.proofs.Types.{Epoch, Node, Pred, Pops, Deferring, Then, RepinAt, PopAt, PushAt, Place, Participant, After, Call}
 
@@ -167,11 +167,7 @@ module _ (N M : ℕ) (m m′ : Machine) (g g′ : Ghost) (inv : Inv N M m g) (ow
 
       -- a next word that is not null names a node in range
       next-in : (x : ℕ) → x < M → isNull (m .shared .nodeNext x) ≡ false → index (m .shared .nodeNext x) < M
-      unfolding index isNull
-      next-in x hx nn =
-          let k = inv .ranged .nodeNext x hx in
-          let z : m .shared .nodeNext x / 2 ≢ 0 = eqb-false (m .shared .nodeNext x / 2) 0 nn in
-          omega arith
+      next-in = next-inside N M m g inv
 
       -- the next of a head, tested: it is two epochs old, if the head is still the head
       exchanges : (q : Pops) (head : Node) → num (q .epoch .0) ≤ G m → HoldsPop M m g (g .gpin d) (q .epoch .0) (PopAt.Next head)

@@ -10,6 +10,7 @@ use Prim.Native.Nat.{ℕ, zero, suc, _≤_, _<_, min}
 use native.Mathlib.Omega.{arith}
 use Rattle.definition.specs.Base.{Tab, least}
 use Rattle.definition.specs.Links.{null, link, isNull, index, pointer}
+use Rattle.definition.proofs.Kept.{not-null}
 use Rattle.definition.specs.Tables.{Shared, write}
 use Rattle.definition.specs.List.{predWord}
 use Rattle.definition.specs.Calls.{opens}
@@ -42,6 +43,11 @@ unlined : (M : ℕ) (m : Machine) (g : Ghost) → Lined M (headOf (m .shared)) (
 unfolding low
 unlined M m g q = record
     { posLe = q .posLe; differ = q .differ; head = q .head; tail = q .tail; near = q .near; ends = q .ends; goesOn = q .goesOn }
+
+-- a next that is not null names a node of the table
+pub next-inside : (N M : ℕ) (m : Machine) (g : Ghost) → Inv N M m g → (x : ℕ) → x < M → isNull (m .shared .nodeNext x) ≡ false → index (m .shared .nodeNext x) < M
+unfolding index
+next-inside N M m g inv x hx e = let r = inv .ranged .nodeNext x hx in let k = not-null N M (m .shared .nodeNext x) e in omega arith
 
 -- ---- the access
 
