@@ -153,6 +153,14 @@ class Chooser:
         self.fresh += 1
         return self.rng.randrange(3) if self.few else self.fresh
 
+    def call(self, action, i, token):
+        """the call; a defer takes the first token, from that one on, that its own bag does not hold: 16 would refuse one that it does"""
+        if action == DEFER:
+            held = tokens(self.t.h[64 * i:64 * i + self.t.p[21 * i + HELD]])
+            while token in held:
+                token += 1
+        return action, i, token
+
     def __iter__(self):
         return self
 
@@ -160,7 +168,7 @@ class Chooser:
         t, rng = self.t, self.rng
         self.clock += 1
         if self.burst:
-            return self.burst.pop()
+            return self.call(*self.burst.pop())
         if rng.random() < 0.005:
             return rng.randrange(9), rng.randrange(t.n + 1), self.token()
         here = [i for i in range(t.n) if not t.absent(i)]
@@ -178,16 +186,21 @@ class Chooser:
             return STEP, i, 0
         if o[GUARDS] and rng.random() < self.fills:
             self.burst = [(DEFER, i, self.token()) for _ in range(max(1, 66 - o[HELD] - rng.randrange(4)))]
-            return self.burst.pop()
+            return self.call(*self.burst.pop())
         calls = self.weights if o[GUARDS] else {PIN: 5, ACQUIRE: 0.1}
         calls = calls | {RELEASE: self.leaves / (3 if o[GUARDS] else 1)} if o[HANDLES] else calls
-        return rng.choices(list(calls), list(calls.values()))[0], i, self.token()
+        return self.call(rng.choices(list(calls), list(calls.values()))[0], i, self.token())
 
 
 def marking(records, rng):
     """the same records, but some of the steps are marked: few of them, or half, or most"""
     share = rng.choice((0.1, 0.5, 0.8))
     return ((MARKED, i, token) if action == STEP and rng.random() < share else (action, i, token) for action, i, token in records)
+
+
+def defers(first, count):
+    """0 retires so many tokens, each another"""
+    return "".join(f" defer 0 {token};" for token in range(first, first + count))
 
 
 # Runs that chance hardly finds, of so many participants and nodes. `finish I`: steps of I to the end of its operation; `to I PLACE`: until it stands
@@ -216,9 +229,9 @@ MADE = [
            " flush 0; finish 0; repin 0; finish 0; flush 1; finish 1; repin 0; finish 0; repin 1; finish 1; flush 0; to 0 20; step 0; defer 1 9; flush 1; to 1 10;"
            " finish 0; finish 1; defer 1 10; flush 1; finish 1"),
     # a 65th item
-    (1, 6, f"{ONE} pin 0; finish 0;{65 * ' defer 0 7;'} finish 0"),
+    (1, 6, f"{ONE} pin 0; finish 0;{defers(7, 65)} finish 0"),
     # the 129th pin collects, with a full bag, and pops another
-    (1, 6, f"{ONE} pin 0; finish 0; repin 0; finish 0; defer 0 7; flush 0; finish 0;{64 * ' defer 0 8;'}{128 * ' unpin 0; finish 0; pin 0; finish 0;'}"),
+    (1, 6, f"{ONE} pin 0; finish 0; repin 0; finish 0; defer 0 7; flush 0; finish 0;{defers(8, 64)}{128 * ' unpin 0; finish 0; pin 0; finish 0;'}"),
 ]
 # the same, with marked steps: `marked I`
 MADE_MARKED = [

@@ -262,6 +262,8 @@ class World:
             return 7
         if action in (UNPIN, REPIN, DEFER, FLUSH) and not guards:
             return 6
+        if action == DEFER and (1, token) in self.bag[p]:
+            return 16
         last = action == RELEASE and handles == 1 and not guards or action == UNPIN and guards == 1 and not handles
         need = 1 if last else int(action == FLUSH and self.bag[p] != ())
         if self.room() < need:

@@ -174,6 +174,8 @@ class Port:
             return REFUSED, 8, []
         if action == DEFER and token > 2147483647:
             return REFUSED, 9, []
+        if action == DEFER and 4 * token + 1 in self.h[64 * i:64 * i + o[HELD]]:
+            return REFUSED, 16, []
         need = self.needs(o, action)
         if len(self.nodes_free()) - self.g[4] < need:
             return REFUSED, 11, []

@@ -5,7 +5,7 @@ use crate::arena::{ARENA, SLOTS};
 use crate::marks::Marks;
 use crate::record::*;
 use crate::run::Run;
-use crate::world::{self, MAX_OBJECTS};
+use crate::world::{self, Item, MAX_OBJECTS};
 
 /// splitmix64.
 pub(crate) struct Rng(pub(crate) u64);
@@ -205,8 +205,25 @@ impl Maker {
         let action = self.run.marks.wild_action(drawn);
         let slot = if action == REGISTER { 0 } else { self.rng.below(self.taste.participants + 2) };
         let slot = if self.rng.chance(20) { self.rng.below(256) } else { slot };
-        let token = if self.rng.chance(100) { self.rng.next() as u32 } else { 0 };
+        // Any token, also where none is wanted; one that the participant holds; else 0.
+        let token = match self.rng.below(1000) {
+            0..100 => self.rng.next() as u32,
+            drawn @ 100..900 if action == DEFER => self.held(slot, drawn).unwrap_or(0),
+            _ => 0,
+        };
         self.run.play(Record::read(&Record::new(action, slot, token).bytes()));
+    }
+
+    /// A token that the participant's own bag holds, if there is one. The number decides which.
+    fn held(&self, slot: usize, number: usize) -> Option<u32> {
+        let tokens = self.tokens(slot);
+        tokens.get(number % tokens.len().max(1)).copied()
+    }
+
+    /// The tokens in a participant's own bag; none where there is no such participant.
+    fn tokens(&self, slot: usize) -> Vec<u32> {
+        let bag = if self.run.judge.present(slot) { self.run.judge.bag(slot) } else { Vec::new() };
+        bag.into_iter().filter_map(Item::token).collect()
     }
 
     fn make(&mut self, record: Record) {
@@ -228,13 +245,27 @@ impl Maker {
             if self.run.judge.running(slot) || world::bag_len(slot) == MAX_OBJECTS {
                 return;
             }
-            let token = self.token();
+            let token = self.token(slot);
             self.run.call(DEFER, slot, token);
         }
     }
 
-    pub(crate) fn token(&mut self) -> u32 {
-        self.rng.below(1000) as u32
+    /// A token that this participant may retire: the one that is drawn, or the next that it does not hold.
+    fn token(&mut self, slot: usize) -> u32 {
+        let drawn = self.rng.below(1000) as u32;
+        self.not_held(slot, drawn)
+    }
+
+    /// The first token, from that number on, that is not in the participant's own bag, where it would be refused (16).
+    fn not_held(&self, slot: usize, first: u32) -> u32 {
+        let held = self.tokens(slot);
+        (first..).find(|token| !held.contains(token)).expect("a bag holds 64 at most")
+    }
+
+    /// A record whose token matters to nobody: where it retires one, the first that the participant does not hold.
+    pub(crate) fn record(&self, action: u8, slot: usize) -> Record {
+        let token = if action == DEFER { self.not_held(slot, 0) } else { 0 };
+        Record::new(action, slot, token)
     }
 
     fn choose(&mut self) -> Option<Record> {
@@ -281,7 +312,7 @@ impl Maker {
         }
         // Few guards and handles, so that outermost pins and finalizes come often.
         let many = action == PIN && world::guards(slot) >= 2 || action == ACQUIRE && world::handles(slot) >= 3;
-        let token = if action == DEFER { self.token() } else { 0 };
+        let token = if action == DEFER { self.token(slot) } else { 0 };
         (!many && !self.last_one_leaves(action, slot)).then(|| Record::new(action, slot, token))
     }
 
@@ -335,9 +366,10 @@ impl Maker {
 
     /// A whole operation, if it is allowed.
     pub(crate) fn operation(&mut self, action: u8, slot: usize) -> bool {
-        let allowed = self.run.judge.refusal(Record::new(action, slot, 0)).is_none();
+        let record = self.record(action, slot);
+        let allowed = self.run.judge.refusal(record).is_none();
         if allowed {
-            self.run.operation(action, slot, 0);
+            self.run.operation(action, slot, record.token);
         }
         allowed
     }
@@ -401,7 +433,7 @@ impl Maker {
         let (action, token) = match (self.run.judge.running(slot), world::guards(slot), world::bag_len(slot)) {
             (true, ..) => (STEP, 0),
             (_, 0, _) => (PIN, 0),
-            (_, _, 0) => (DEFER, self.token()),
+            (_, _, 0) => (DEFER, self.token(slot)),
             _ => (if self.rng.chance(800) { FLUSH } else { UNPIN }, 0),
         };
         let record = Record::new(action, slot, token);

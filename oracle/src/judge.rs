@@ -1,5 +1,5 @@
-//! Plays records on the crate. What document 01 would refuse is answered here, by its table and order, and never reaches
-//! the crate; all else is what the crate does.
+//! Plays records on the crate. What document 01 would refuse, or document 02's No. 6, is answered here, by their table and order, and
+//! never reaches the crate; all else is what the crate does.
 
 use crate::arena::{ARENA, NODES, SLOTS};
 use crate::collector::LocalHandle;
@@ -176,6 +176,7 @@ impl Judge {
             PIN | ACQUIRE | RELEASE if handles == 0 => Some(7),
             PIN | ACQUIRE if count >= MOST_COUNTED => Some(8),
             DEFER if token > LAST_TOKEN => Some(9),
+            DEFER if self.bag(slot).contains(&Item::Token(u64::from(token))) => Some(16),
             _ => (self.free_nodes() < self.need(action, slot)).then_some(11),
         }
     }

@@ -103,7 +103,7 @@ impl Maker {
             Aim::Flush => FLUSH,
             Aim::Defer => DEFER,
         };
-        self.play_allowed(Record::new(action, one, 0));
+        self.play_allowed(self.record(action, one));
         let steps = [0, 0, 2, self.rng.below(40)][self.rng.below(4)];
         self.steps(one, steps);
         if self.rng.chance(200) {
@@ -168,7 +168,7 @@ impl Maker {
         }
         let (items, action) = if self.rng.chance(300) { (MAX_OBJECTS, DEFER) } else { (1, FLUSH) };
         self.defers(other, items);
-        self.play_allowed(Record::new(action, other, 0));
+        self.play_allowed(self.record(action, other));
         if !calm && self.rng.chance(500) {
             let steps = self.rng.below(60);
             return self.steps(other, steps);

@@ -1,4 +1,5 @@
-//! The runs that document 01 works by hand, [P] or not, each with what the document says and what came out; and some with marked steps.
+//! The runs that document 01 works by hand, [P] or not, each with what the document says and what came out; two of a double retirement;
+//! and some with marked steps.
 
 use crate::epoch::Epoch;
 use crate::judge::Answer;
@@ -48,6 +49,11 @@ impl Worked {
             self.expect(&format!("{:?}", record.bytes()), answer, Answer::Refused(number));
         }
     }
+    /// A token that is accepted, and done at once.
+    fn retires(&mut self, slot: usize, token: u32) {
+        let answer = self.run.call(DEFER, slot, token).answer;
+        self.expect(&format!("{slot} retires {token}"), answer, Answer::Done(0));
+    }
     fn registered(mut self) -> Worked {
         self.run.register();
         self
@@ -60,7 +66,7 @@ impl Worked {
     }
 }
 
-const ALL: [fn() -> Worked; 22] = [
+const ALL: [fn() -> Worked; 24] = [
     whole_case,
     first_pins,
     seven_freed,
@@ -80,6 +86,8 @@ const ALL: [fn() -> Worked; 22] = [
     same_index_again,
     nested_guards,
     refusals,
+    double_retirement,
+    double_without_a_node,
     full_table,
     full_counts,
     nobody_left,
@@ -425,7 +433,7 @@ fn nested_guards() -> Worked {
     w
 }
 
-/// Refusals that a schedule can show at N 32, M 128; 11 and 8 have runs of their own.
+/// Refusals that a schedule can show at N 32, M 128; 8, 11 and 16 have runs of their own.
 fn refusals() -> Worked {
     let mut w = Worked::new("refusals", "3, 4, 5, 6, 7, 9, 10, 13 by the table, in its order");
     let large = Record::new(DEFER, 0, 2_147_483_648);
@@ -449,6 +457,73 @@ fn refusals() -> Worked {
         w.run.register();
     }
     w.refused(10, [Record::new(REGISTER, 0, 0)]);
+    w
+}
+
+/// A token is refused in the bag that holds it, as long as it does, and nowhere else.
+fn double_retirement() -> Worked {
+    let mut w = Worked::new(
+        "a double retirement",
+        "(document 02, No. 6) a token that the own bag holds: 16, after 9 and before 11, nothing changed; in another bag or in the queue: accepted",
+    );
+    let (a, b, gone) = (w.run.register(), w.run.register(), w.run.register());
+    w.run.operation(RELEASE, gone, 0);
+    w.refused(6, [Record::new(DEFER, a, 7)]);
+    w.run.operation(PIN, a, 0);
+    w.run.operation(PIN, b, 0);
+    w.retires(a, 7);
+    w.refused(16, [Record::new(DEFER, a, 7)]);
+    w.refused(9, [Record::new(DEFER, a, 2_147_483_655)]);
+    w.expect("bag after these", w.run.judge.bag(a), vec![Item::Slot(2), Item::Token(7)]);
+    // The slot of that number, which its pin unlinked, is another item.
+    w.retires(a, 2);
+    w.retires(b, 7);
+    w.run.operation(FLUSH, a, 0);
+    w.retires(a, 7);
+    w.refused(16, [Record::new(DEFER, a, 7)]);
+    double_in_a_full_bag(&mut w, a);
+    node_of_that_number(&mut w, a, b);
+    w
+}
+
+/// A full bag is not pushed for a token that it holds. Once another has it pushed, its tokens are in the queue.
+fn double_in_a_full_bag(w: &mut Worked, a: usize) {
+    for token in 100..163 {
+        w.run.call(DEFER, a, token);
+    }
+    let room = w.run.judge.free_nodes();
+    w.refused(16, [7, 100, 162].map(|token| Record::new(DEFER, a, token)));
+    let after = (w.run.judge.bag(a).len(), w.run.judge.running(a), w.run.judge.free_nodes());
+    w.expect("items held, running, free nodes", after, (64, false, room));
+    let steps = w.count(DEFER, a, 163);
+    w.expect("steps of the 65th", steps, 5);
+    w.expect("bag", w.run.judge.bag(a), vec![Item::Token(163)]);
+    w.refused(16, [Record::new(DEFER, a, 163)]);
+    w.retires(a, 7);
+}
+
+/// Nor does a node of that number count. What was refused is not freed: 7 was accepted four times.
+fn node_of_that_number(w: &mut Worked, a: usize, b: usize) {
+    for (action, slot) in [(FLUSH, b), (UNPIN, b), (REPIN, a), (FLUSH, a), (REPIN, a)] {
+        w.run.operation(action, slot, 0);
+    }
+    let freed: Vec<u32> = w.freed(FLUSH, a).into_iter().flat_map(|(_, tokens)| tokens).collect();
+    w.expect("tokens freed, and how often 7", (freed.len(), freed.iter().filter(|token| **token == 7).count()), (69, 4));
+    w.expect("bag", w.run.judge.bag(a), (1..=4).map(Item::Node).collect());
+    w.retires(a, 4);
+    w.refused(16, [Record::new(DEFER, a, 4)]);
+}
+
+fn double_without_a_node() -> Worked {
+    let says = "(document 02, No. 6) a full bag, and no node is free: 16 for what it holds, 11 for another";
+    let mut w = Worked::sized("a double retirement at M 2", says, 2).pinned();
+    w.run.call(DEFER, 0, 7);
+    w.run.operation(FLUSH, 0, 0);
+    for token in 0..64 {
+        w.run.call(DEFER, 0, token);
+    }
+    w.refused(16, [0, 63].map(|token| Record::new(DEFER, 0, token)));
+    w.refused(11, [Record::new(DEFER, 0, 64)]);
     w
 }
 

@@ -50,6 +50,9 @@ impl Item {
             Item::Slot(v) => 4 * v + 3,
         }
     }
+    pub(crate) fn token(self) -> Option<u32> {
+        if let Item::Token(v) = self { Some(v as u32) } else { None }
+    }
 }
 
 /// The bytes of a bag, kept from before the crate moves it.

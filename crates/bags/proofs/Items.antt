@@ -1,19 +1,21 @@
--- Items: an item and its word are the same thing said twice; what is in range; what a list of items frees, bag after bag. Assumes nothing.
-use mathlib.Core.Path.{_≡_, refl, ap, _∙_}
-use mathlib.Core.Bool.{Bool, true}
+-- Items: an item and its word are the same thing said twice; what is in range; whether a bag has a token; what a list of items frees, bag after bag.
+-- Assumes nothing.
+use mathlib.Core.Path.{_≡_, refl, sym, _∙_}
+use mathlib.Core.Bool.{Bool, true, false, _&&_}
 use mathlib.Core.List.{List, [], _∷_, _++_}
 use Prim.Native.Nat.{ℕ, zero, suc, _+_, _*_, _/_, _%_, _^_, _≤_, _<_}
 use native.Mathlib.Omega.{arith}
 use lib.Dec.{ltb, eqb}
 use lib.ListN.{length, drop, length-append, length-drop}
 use borrow.Author.Tests.{ltb-true}
-use Rattle.definition.specs.Base.{branch, Tab, put, listed}
+use Rattle.definition.specs.Base.{branch, Tab, put, listed, among}
 use Rattle.definition.specs.Bags.{itemWord, itemOf, items, tokens, freeSlots, freeNodes}
 use Rattle.definition.specs.Ranges.{itemIn}
 use Rattle.definition.specs.declared.Slot.{Slot}
 use Rattle.definition.specs.declared.Node.{Node}
 use Rattle.definition.specs.declared.Item.{Item}
 use Rattle.definition.proofs.Base.{branch-ind, both}
+use Rattle.definition.proofs.Held.{tokens-append, held-more, held-some}
 use Rattle.bags.specs.Bags.{filled, freeItem, freeItems, itemValue}
 
 -- ---- words
@@ -57,17 +59,40 @@ unfolding items listed
 items-same zero c d h = refl
 items-same (suc k) c d h = rw (items-same k c d (λ j l. h j (omega arith)), h k (omega arith))
 
+-- ---- a token looked for, place by place
+
+-- a test is what it chooses between
+test-is : (b : Bool) → b ≡ branch b true false
+unfolding branch
+test-is true = refl
+test-is false = refl
+
+-- a word is a token by its kind, and this one by its number
+pub token-word : (x w : ℕ) → (eqb (w % 4) 1 && eqb x (w / 4)) ≡ among x (tokens (itemOf w ∷ []))
+unfolding itemOf tokens among
+token-word x w =
+    branch-ind (λ (i : Item). test ≡ among x (tokens (i ∷ []))) (eqb (w % 4) 1) (λ e. rw e (test-is (eqb x (w / 4))))
+    (λ e. branch-ind (λ (i : Item). test ≡ among x (tokens (i ∷ []))) (eqb (w % 4) 2) (λ _. rw e refl) (λ _. rw e refl))
+  where
+    test : Bool
+    test = eqb (w % 4) 1 && eqb x (w / 4)
+
+module _ (x : ℕ) (d : Tab ℕ) where
+  -- the item at place j is the token, so the token is among k items
+  pub found-there : (k j : ℕ) (b : Bool) → j < k → b ≡ among x (tokens (itemOf (d j) ∷ [])) → b ≡ true → true ≡ among x (tokens (items k d))
+  found-there k j b lt is h = sym (held-some x d k j lt (sym is ∙ h))
+
+  -- it is not, and none before it was
+  pub found-not : (j : ℕ) (b : Bool) → among x (tokens (items j d)) ≡ false → b ≡ among x (tokens (itemOf (d j) ∷ [])) → b ≡ false
+      → among x (tokens (items (j + 1) d)) ≡ false
+  unfolding branch
+  found-not j b none is h =
+      let e : j + 1 ≡ suc j = omega arith in
+      rw e (held-more x d j ∙ rw (none, ← is, h))
+
 -- ---- lists of items
 
--- what comes out of two lists, one after the other: the tokens
-pub tokens-append : (l m : List Item) → tokens (l ++ m) ≡ tokens l ++ tokens m
-unfolding tokens
-tokens-append [] m = refl
-tokens-append (Item.Token t ∷ l) m = ap (λ (r : List ℕ). t ∷ r) (tokens-append l m)
-tokens-append (Item.Node n ∷ l) m = tokens-append l m
-tokens-append (Item.Slot s ∷ l) m = tokens-append l m
-
--- the free slots
+-- what comes out of two lists, one after the other (the tokens: `tokens-append` of crates/definition): the free slots
 pub freeSlots-append : (l m : List Item) (f : Tab Bool) → freeSlots (l ++ m) f ≡ freeSlots m (freeSlots l f)
 unfolding freeSlots
 freeSlots-append [] m f = refl

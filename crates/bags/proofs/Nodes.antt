@@ -9,12 +9,13 @@ use lib.ListN.{length, set, drop, length-set}
 use lib.Seq.{paste}
 use Rattle.definition.specs.Base.{Tab, put}
 use Rattle.definition.specs.Links.{null}
-use Rattle.definition.specs.Bags.{maxObjects, SealedBag, moved}
+use Rattle.definition.specs.Bags.{maxObjects, SealedBag, items, moved}
 use Rattle.definition.specs.Layout.{nodeWords, cell, bagFrom}
 use Rattle.definition.proofs.Base.{put-same, put-other, put-ind, put-back}
 use Rattle.definition.proofs.Lists.{cell-in}
 use Rattle.bits.specs.Bits.{wordsAt}
 use Rattle.bags.specs.Bags.{stamped, bagSeal, bagLen}
+use Rattle.bags.proofs.Items.{items-same}
 use Rattle.bags.proofs.Cells.{cell-set, column, column-set, column-set-other, cell-paste}
 
 -- ---- a participant's bag
@@ -24,6 +25,11 @@ pub held-put : (held : List ℕ) (p k v : ℕ) → k < 64 → p * 64 + k < lengt
     → cell maxObjects (set held (p * 64 + k) v) ≡ put (cell maxObjects held) p (put (cell maxObjects held p) k v)
 unfolding maxObjects
 held-put held p k v h fits = cell-set 64 held p k v h fits
+
+-- the items of that bag are the words of its row
+pub held-items : (held : List ℕ) (p k : ℕ) → k ≤ 64 → items k (cell maxObjects held p) ≡ items k (wordsAt held (p * 64))
+unfolding maxObjects
+held-items held p k h = items-same k (cell 64 held p) (wordsAt held (p * 64)) (λ j lt. cell-in 64 held p j (omega arith))
 
 -- ---- the bag of a node, as its row says
 

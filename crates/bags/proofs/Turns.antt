@@ -9,9 +9,10 @@ use lib.Seq.{drop-cons, getD-drop, set-append-seam, append-snoc, sets, paste, pa
 use Rattle.definition.specs.Base.{Tab, listed}
 use Rattle.definition.specs.Bags.{itemOf, items, tokens}
 use Rattle.definition.specs.declared.Item.{Item}
+use Rattle.definition.proofs.Held.{tokens-append}
 use Rattle.bags.specs.Bags.{filled, freeItem, freeItems}
 use Rattle.bags.proofs.Freeing.{length-freeItems}
-use Rattle.bags.proofs.Items.{tokens-append, freeItems-append, tokens-few, length-filled}
+use Rattle.bags.proofs.Items.{freeItems-append, tokens-few, length-filled}
 
 -- `move_items`: one more word is copied
 pub copied-more : (s d : List ℕ) (from to k : ℕ) → to + k < length d → from + k < length s

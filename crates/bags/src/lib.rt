@@ -15,6 +15,7 @@ ghost use mathlib.Core.List.{[], _∷_};
 ghost use Prim.Native.Nat.{_+_, _*_, _^_, _≤_, _<_};
 ghost use lib.ListN.{length, set, drop};
 ghost use lib.Seq.{paste, sets};
+ghost use Rattle.definition.specs.Base.{among};
 ghost use Rattle.definition.specs.Bags.{itemWord, itemOf, items, tokens};
 ghost use Rattle.bits.specs.Bits.{wordsAt};
 ghost use Rattle.bags.specs.Bags.{stamped, bagLen, bagItems, filled, freeItem, freeItems, hasBit, haveBits};
@@ -57,6 +58,31 @@ pub fn put_item(held: &mut [u64], p: usize, k: usize, item: Item)
     let place = p * ROW + k;
     let w = item_word(item);
     held[place] = w;
+}
+
+// Returns whether one of the `k` items of participant `p`'s bag is this token.
+pub fn holds_token(held: &[u64], p: usize, k: usize, token: u64) -> bool
+    requires { ⌜ p * 64 + k ≤ length (now held) ⌝ }
+    ensures { λ r. ⌜ r ≡ among token (tokens (items k (wordsAt (now (held .entry)) (p * 64)))) ⌝ }
+{
+    let at = p * ROW;
+    let mut i: usize = 0;
+    while i < k {
+        let found = is_token(held[at + i], token);
+        if found {
+            return true;
+        }
+        i += 1;
+    }
+    false
+}
+
+// Returns whether the item that a word stands for is this token. A node or a slot of the same number is none.
+fn is_token(w: u64, token: u64) -> bool
+    ensures { λ r. ⌜ r ≡ among token (tokens (itemOf w ∷ [])) ⌝ }
+{
+    let kind = w % 4;
+    (kind == 1) & (token == w / 4)
 }
 
 // Moves participant `p`'s bag of `k` items into a node and seals it with `e`. The node's next is null.

@@ -8,11 +8,11 @@ use lib.Dec.{eqb, ltb, leb}
 use lib.ListN.{getD}
 use borrow.Author.Tests.{leb-false, ltb-true, ltb-false, lt-ltb, le-ltb, eqb-true, eqb-false, eq-eqb, ne-eqb, le-leb, lt-leb, not-true, not-false}
 use Rattle.definition.specs.Base.{branch, count, least}
-use Rattle.definition.specs.Bags.{maxObjects}
-use Rattle.definition.specs.Calls.{lacks, countFull, tokenAbove, needs}
+use Rattle.definition.specs.Bags.{maxObjects, items}
+use Rattle.definition.specs.Calls.{lacks, countFull, tokenAbove, heldAlready, needs}
 use Rattle.definition.specs.Layout.{Lent, cell, participantWords, sized, slotBits, nodeBits, sharedFrom, tablesOf}
 use Rattle.definition.specs.Links.{isTagged}
-use Rattle.definition.specs.Public.{Check, check, refusal, takesNode, stepChecks, callChecks, registerChecks, the, damaged, absent, running, noNode, missing}
+use Rattle.definition.specs.Public.{Check, check, refusal, takesNode, stepChecks, callChecks, registerChecks, the, damaged, absent, running, twice, noNode, missing}
 use Rattle.definition.specs.Ranges.{withinLimits, bitWords, isRest, bitsIn, inRange}
 use Rattle.definition.specs.Tables.{Tables}
 use Rattle.definition.specs.declared.Call.{Call}
@@ -20,7 +20,8 @@ use Rattle.definition.specs.declared.Participant.{Participant}
 use Rattle.definition.specs.Codec.{participantOf}
 use Rattle.definition.proofs.Base.{both, count-least}
 use Rattle.definition.proofs.Lists.{cell-in}
-use Rattle.bits.specs.Bits.{within}
+use Rattle.bits.specs.Bits.{within, wordsAt}
+use Rattle.bags.proofs.Nodes.{held-items}
 use Rattle.ranges.specs.Sound.{Sound}
 use Rattle.ranges.proofs.Facts.{facts, bag-len-small}
 use Rattle.checks.specs.declared.Checked.{Checked}
@@ -148,6 +149,7 @@ pub record CallFine (N M : ℕ) (l : Lent) (p : ℕ) (c : Call) : Type 0 where
   pub counted : lacks c (the p (tablesOf N M l)) ≡ 0
   pub countable : countFull c (the p (tablesOf N M l)) ≡ false
   pub small : tokenAbove c ≡ false
+  pub once : twice p c (tablesOf N M l) ≡ false
   pub enough : tablesOf N M l .aside + needs N c (the p (tablesOf N M l)) ≤ count M (tablesOf N M l .nodeFree)
 
 -- a number that is not other than 0
@@ -165,7 +167,8 @@ call-fine N M l p c e =
     let f = none k _ _ (λ z. ap not (eq-eqb k 0 z)) (d .1) in
     let g = none 8 _ _ (λ z. absurd (omega arith)) (f .1) in
     let h = none 9 _ _ (λ z. absurd (omega arith)) (g .1) in
-    let i = none 11 _ _ (λ z. absurd (omega arith)) (h .1) in
+    let i = none 16 _ _ (λ z. absurd (omega arith)) (h .1) in
+    let j = none 11 _ _ (λ z. absurd (omega arith)) (i .1) in
     let here = present N M p t (b .0) in
     record {
       sound = a .0;
@@ -176,7 +179,8 @@ call-fine N M l p c e =
       counted = zero-is k (f .0);
       countable = g .0;
       small = h .0;
-      enough = ltb-false (count M (t .nodeFree)) (t .aside + needs N c (the p t)) (i .0);
+      once = i .0;
+      enough = ltb-false (count M (t .nodeFree)) (t .aside + needs N c (the p t)) (j .0);
     }
 
 -- a registration may go on: the smallest free slot is one of N
@@ -237,6 +241,10 @@ module _ (N M : ℕ) (l : Lent) (w : Sound N M l) where
   unfolding tablesOf participantOf
   held-within p h = let t = tablesOf N M l in bag-len-small N M (t .own p .held) (t .held p) (facts N M t (w .range) .held p h)
 
+-- a bag is part of its row, and a row of one of n participants is part of the list
+pub bag-inside : (n p k len : ℕ) → p < n → n * 64 ≤ len → k ≤ 64 → p * 64 + k ≤ len
+bag-inside n p k len h fits few = omega arith
+
 -- a participant's link is the second word of its row
 pub next-cell : (ps : List ℕ) (p : ℕ) → cell participantWords ps p 1 ≡ getD ps (p * 21 + 1) 0
 unfolding participantWords
@@ -285,7 +293,7 @@ unfolding refusal branch absent maxObjects
 step-out N M places p t r h e = e ∙ rw (le-leb N p h)
 
 pub call-out : (N M p : ℕ) (c : Call) (t : Tables) (r : ℕ) → N ≤ p
-    → r ≡ refusal (check 3 true ∷ check 4 false ∷ check 0 (not (eqb 0 0)) ∷ check 8 false ∷ check 9 false ∷ check 11 false ∷ []) → r ≡ refusal (callRest N M p c t)
+    → r ≡ refusal (check 3 true ∷ check 4 false ∷ check 0 (not (eqb 0 0)) ∷ check 8 false ∷ check 9 false ∷ check 16 false ∷ check 11 false ∷ []) → r ≡ refusal (callRest N M p c t)
 unfolding refusal branch absent
 call-out N M p c t r h e = e ∙ rw (le-leb N p h)
 
@@ -301,10 +309,12 @@ module _ (N M : ℕ) (l : Lent) (p : ℕ) (o : Participant) (resting gone : Bool
   step-in places taking r takes e =
       e ∙ rw (lost, takes, nodes, rest, is, lt-leb N p h, not-not (isRest (row (l .participants) p .place)))
 
-  pub call-in : (c : Call) (lack : ℕ) (full above : Bool) (need : ℕ) (short : Bool) (r : ℕ) → lack ≡ lacks c o → full ≡ countFull c o → above ≡ tokenAbove c
+  pub call-in : (c : Call) (lack : ℕ) (full above again : Bool) (need : ℕ) (short : Bool) (r : ℕ) → o .held ≤ 64
+      → lack ≡ lacks c o → full ≡ countFull c o → above ≡ tokenAbove c → again ≡ heldAlready c (items (o .held) (wordsAt (l .held) (p * 64)))
       → need ≡ needs N c o → short ≡ ltb free (getD (l .globals) 4 0 + need)
-      → r ≡ refusal (check 3 gone ∷ check 4 (not resting) ∷ check lack (not (eqb lack 0)) ∷ check 8 full ∷ check 9 above ∷ check 11 short ∷ [])
+      → r ≡ refusal (check 3 gone ∷ check 4 (not resting) ∷ check lack (not (eqb lack 0)) ∷ check 8 full ∷ check 9 above ∷ check 16 again ∷ check 11 short ∷ [])
       → r ≡ refusal (callRest N M p c (tablesOf N M l))
-  unfolding absent noNode running tablesOf sharedFrom
-  call-in c lack full above need short r a b d f g e =
-      e ∙ rw (lost, a, b, d, g, f, nodes, rest, is, lt-leb N p h, not-not (isRest (row (l .participants) p .place)))
+  unfolding absent noNode running twice tablesOf sharedFrom
+  call-in c lack full above again need short r few a b d w f g e =
+      let own = w ∙ ap (heldAlready c) (sym (held-items (l .held) p (o .held) few)) in
+      e ∙ rw (lost, a, b, d, own, g, f, nodes, rest, is, lt-leb N p h, not-not (isRest (row (l .participants) p .place)))

@@ -9,7 +9,7 @@ use Rattle.definition.specs.Bags.{maxObjects}
 use Rattle.definition.specs.Calls.{lacks, countFull, tokenAbove}
 use Rattle.definition.specs.Codec.{participantOf}
 use Rattle.definition.specs.Layout.{Lent, cell, participantWords, recordAt, sized, tablesOf}
-use Rattle.definition.specs.Public.{Check, check, refusal, stepChecks, callChecks, registerChecks, the, absent, running, noNode, missing}
+use Rattle.definition.specs.Public.{Check, check, refusal, stepChecks, callChecks, registerChecks, the, absent, running, twice, noNode, missing}
 use Rattle.definition.specs.Ranges.{withinLimits, inRange}
 use Rattle.definition.specs.Tables.{Tables}
 use Rattle.definition.specs.declared.Call.{Call}
@@ -48,7 +48,7 @@ module _ (N M : ℕ) where
   abbrev pub callRest : ℕ → Call → Tables → List Check
   callRest p c t =
       check 3 (absent N M p t) ∷ check 4 (running p t) ∷ check (lacks c (the p t)) (not (eqb (lacks c (the p t)) 0))
-      ∷ check 8 (countFull c (the p t)) ∷ check 9 (tokenAbove c) ∷ check 11 (noNode N M p c t) ∷ []
+      ∷ check 8 (countFull c (the p t)) ∷ check 9 (tokenAbove c) ∷ check 16 (twice p c t) ∷ check 11 (noNode N M p c t) ∷ []
 
   abbrev pub registerRest : Tables → List Check
   registerRest t = check 10 (eqb (count N (t .slotFree)) 0) ∷ []

@@ -1,9 +1,11 @@
-// The refusals of the public calls, in document 01's order: sizes (2) and ranges (1) first, then what the call itself asks.
+// The refusals of the public calls, in document 01's order, with document 02's 16 (No. 6): sizes (2) and ranges (1) first, then what the call
+// itself asks.
 //
 // The Rust asks nothing of this: its types and its borrow checker see to it that a handle names a participant that is there, and its
 // counts panic or wrap where they overflow. Here every call may come with anything, so each is checked whole before it changes a word. A check
 // only reads. The numbers are those of `refusal` over the definition's lists of checks (specs/Public); `Fine` says that none holds, and
 // proofs/Laws says what a caller knows then.
+use bags::holds_token;
 use bits::bit_words;
 use bits::count_free;
 use bits::node_bits_at;
@@ -27,11 +29,13 @@ ghost use Prim.Native.Nat.{ℕ, _+_, _*_, _≤_, _<_};
 ghost use lib.Dec.{eqb, ltb};
 ghost use lib.ListN.{length};
 ghost use Rattle.definition.specs.Base.{branch, count};
+ghost use Rattle.definition.specs.Bags.{items};
+ghost use Rattle.definition.specs.Calls.{heldAlready};
 ghost use Rattle.definition.specs.Layout.{lent, cell, participantWords, slotBits, nodeBits, tablesOf};
 ghost use Rattle.definition.specs.Links.{isTagged};
 ghost use Rattle.definition.specs.Public.{check, refusal};
 ghost use Rattle.definition.specs.Ranges.{bitWords};
-ghost use Rattle.bits.specs.Bits.{within};
+ghost use Rattle.bits.specs.Bits.{within, wordsAt};
 ghost use Rattle.checks.specs.Refusals.{checkedOf, damageOf, stepRefusal, callRefusal, registerRefusal};
 ghost use Rattle.checks.specs.Refusals.{stepRest, callRest, row};
 
@@ -118,6 +122,22 @@ fn gone(n: usize, globals: &[u64], participants: &[u64], p: usize, resting: bool
     slot_free(globals, n, p) | (is_tagged(next) & resting)
 }
 
+// Returns whether a call would retire a token that participant `p`'s bag of `k` items has already. For any other call the bag is not read.
+fn held_already(held: &[u64], p: usize, k: usize, c: Call) -> bool
+    requires { ⌜ p * 64 + k ≤ length (now held) ⌝ }
+    ensures { λ r. ⌜ r ≡ heldAlready c (items k (wordsAt (now (held .entry)) (p * 64))) ⌝ }
+{
+    match c {
+        Call::Acquire => false,
+        Call::Release => false,
+        Call::Pin => false,
+        Call::Unpin => false,
+        Call::Repin => false,
+        Call::Defer(token) => holds_token(held, p, k, token),
+        Call::Flush => false,
+    }
+}
+
 // ---- the first check that holds
 
 // Returns the refusal of a step: 12, 3, 5, then 1 for the missing node.
@@ -130,12 +150,21 @@ fn step_refusal(short: bool, gone: bool, idle: bool, lacking: bool) -> u64
     pick(short, 12, there)
 }
 
-// Returns the refusal of a call: 3, 4, 7 or 6, 8, 9, 11.
-fn call_refusal(gone: bool, busy: bool, lack: u64, full: bool, above: bool, short: bool) -> u64
-    ensures { λ r. ⌜ r ≡ refusal (check 3 gone ∷ check 4 busy ∷ check lack (not (eqb lack 0)) ∷ check 8 full ∷ check 9 above ∷ check 11 short ∷ []) ⌝ }
+// Returns the refusal of a call: 3, 4, 7 or 6, 8, 9, 16, 11.
+fn call_refusal(
+    gone: bool,
+    busy: bool,
+    lack: u64,
+    full: bool,
+    above: bool,
+    twice: bool,
+    short: bool,
+) -> u64
+    ensures { λ r. ⌜ r ≡ refusal (check 3 gone ∷ check 4 busy ∷ check lack (not (eqb lack 0)) ∷ check 8 full ∷ check 9 above ∷ check 16 twice ∷ check 11 short ∷ []) ⌝ }
 {
     let nodes = pick(short, 11, 0);
-    let token = pick(above, 9, nodes);
+    let bag = pick(twice, 16, nodes);
+    let token = pick(above, 9, bag);
     let limit = pick(full, 8, token);
     let count = pick(lack != 0, lack, limit);
     let rest = pick(busy, 4, count);
@@ -176,14 +205,22 @@ fn step_at(
 }
 
 // Returns the refusal of a call on participant `p` on lists in range.
-fn call_at(n: usize, m: usize, globals: &[u64], participants: &[u64], p: usize, c: Call) -> u64
-    requires { ⌜ (n ≤ 4096) × ((m ≤ 4096) × ((5 + bitWords n + bitWords m ≤ length (now globals)) × (n * 21 ≤ length (now participants)))) ⌝ }
+fn call_at(
+    n: usize,
+    m: usize,
+    globals: &[u64],
+    participants: &[u64],
+    held: &[u64],
+    p: usize,
+    c: Call,
+) -> u64
+    requires { ⌜ (n ≤ 4096) × ((m ≤ 4096) × ((5 + bitWords n + bitWords m ≤ length (now globals)) × ((n * 21 ≤ length (now participants)) × (n * 64 ≤ length (now held))))) ⌝ }
     requires { ⌜ within (bitWords m) m (nodeBits n m (now globals)) ≡ true ⌝ }
     requires { ⌜ (p < n → row (now participants) p .held ≤ 64) ⌝ }
-    ensures { λ r. ⌜ ((nodes held queued : List ℕ) → r ≡ refusal (callRest n m p c (tablesOf n m (lent (now (globals .entry)) (now (participants .entry)) nodes held queued)))) ⌝ }
+    ensures { λ r. ⌜ ((nodes queued : List ℕ) → r ≡ refusal (callRest n m p c (tablesOf n m (lent (now (globals .entry)) (now (participants .entry)) nodes (now (held .entry)) queued)))) ⌝ }
 {
     if n <= p {
-        return call_refusal(true, false, 0, false, false, false);
+        return call_refusal(true, false, 0, false, false, false, false);
     }
     let aside = globals[ASIDE];
     let o = load(participants, p);
@@ -193,10 +230,11 @@ fn call_at(n: usize, m: usize, globals: &[u64], participants: &[u64], p: usize, 
     let lack = lacks(c, o);
     let full = count_full(c, o);
     let above = token_above(c);
+    let twice = held_already(held, p, o.held as usize, c);
     let need = needs(n as u64, c, o);
     let free = free_nodes(globals, n, m);
     let short = no_node(free, aside, need);
-    call_refusal(gone, !resting, lack, full, above, short)
+    call_refusal(gone, !resting, lack, full, above, twice, short)
 }
 
 // Returns what every call is refused for first: 2 for sizes, 1 for ranges, else 0.
@@ -259,7 +297,7 @@ pub fn check_call(
     if first != 0 {
         return Checked::Refused(first);
     }
-    let k = call_at(n, m, globals, participants, p, c);
+    let k = call_at(n, m, globals, participants, held, p, c);
     answer(k)
 }
 

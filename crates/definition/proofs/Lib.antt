@@ -7,4 +7,6 @@ pub mod Kept
 pub mod Opens
 pub mod Refusals
 pub mod Marks
+pub mod Held
+pub mod Double
 pub mod Worked

@@ -1,5 +1,5 @@
--- What the whole definition is written with: choice, tables as functions from an index, and five ways to run over the first n indices
--- of a table. Assumes nothing.
+-- What the whole definition is written with: choice, tables as functions from an index, five ways to run over the first n indices of a
+-- table, and whether a number is one of some. Assumes nothing.
 use mathlib.Core.Bool.{Bool, true, false, _&&_}
 use mathlib.Core.List.{List, [], _∷_, _++_}
 use Prim.Native.Nat.{ℕ, zero, suc, _+_}
@@ -41,3 +41,8 @@ least (suc n) f = branch (ltb (least n f) n) (least n f) (branch (f n) n (suc n)
 unfoldable pub listed : {A : Type 0} → ℕ → Tab A → List A
 listed zero f = []
 listed (suc n) f = listed n f ++ f n ∷ []
+
+-- whether a number is among some
+unfoldable pub among : ℕ → List ℕ → Bool
+among x [] = false
+among x (y ∷ l) = branch (eqb x y) true (among x l)

@@ -1,13 +1,15 @@
 -- internal.rs, the functions of `Local` that a participant calls: what each asks first, the nodes it needs, and what it begins, up to the
--- first access. An operation without an access is done at once. Counts and needs are document 01's. Assumes nothing.
+-- first access. An operation without an access is done at once. Counts and needs are document 01's, what a bag holds already document 02's (No. 6).
+-- Assumes nothing.
 use mathlib.Core.Bool.{Bool, true, false, _&&_}
+use mathlib.Core.List.{List}
 use Prim.Native.Nat.{ℕ, _+_, _-_, _/_}
 use lib.Dec.{eqb, ltb, leb}
-use Rattle.definition.specs.Base.{branch}
-use Rattle.definition.specs.Bags.{maxObjects}
+use Rattle.definition.specs.Base.{branch, among}
+use Rattle.definition.specs.Bags.{maxObjects, tokens}
 use Rattle.definition.specs.Flow.{on, done, defer, finalize, collectSteps, counting, sharing}
 use Rattle.definition.specs.Internal.{collects}
-use Rattle.definition.specs.Types.{Owner, Deferring, Then, RepinAt, PushAt, Place, Participant, After, Call}
+use Rattle.definition.specs.Types.{Item, Owner, Deferring, Then, RepinAt, PushAt, Place, Participant, After, Call}
 
 -- the largest guard or handle count, and the largest token
 unfoldable pub maxCount : ℕ
@@ -45,6 +47,16 @@ tokenAbove Call.Unpin = false
 tokenAbove Call.Repin = false
 tokenAbove (Call.Defer token) = ltb maxToken token
 tokenAbove Call.Flush = false
+
+-- refusal 16 (document 02, No. 6): the token to retire is among those that the participant's own bag holds already. The items are those of that bag
+unfoldable pub heldAlready : Call → List Item → Bool
+heldAlready Call.Acquire l = false
+heldAlready Call.Release l = false
+heldAlready Call.Pin l = false
+heldAlready Call.Unpin l = false
+heldAlready Call.Repin l = false
+heldAlready (Call.Defer token) l = among token (tokens l)
+heldAlready Call.Flush l = false
 
 -- internal.rs, `unpin` and `release_handle`: whether the call goes on to `finalize`
 unfoldable pub finalizes : Call → Participant → Bool

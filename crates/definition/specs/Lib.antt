@@ -15,6 +15,7 @@ pub mod Ranges
 pub mod Layout
 pub mod Public
 pub mod Marks
+pub mod Double
 pub mod Survey
 pub mod Runs
 pub mod Schedule

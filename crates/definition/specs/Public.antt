@@ -1,6 +1,6 @@
 -- The public calls: what each answers and what it leaves behind, for every input. First on tables that have the right sizes, with every
 -- refusal but 2 (a run is a run of these); then on lent lists, with refusal 2. The numbers and the order of the refusals are document
--- 01's. A refusal leaves everything as it was. Assumes nothing.
+-- 01's, with 16 as document 02 (No. 6) has it. A refusal leaves everything as it was. Assumes nothing.
 use mathlib.Core.Bool.{Bool, true, false, _&&_, _||_, not}
 use mathlib.Core.List.{List, [], _∷_, _++_}
 use Prim.Native.Nat.{ℕ, _+_}
@@ -9,11 +9,11 @@ use lib.ListN.{length, drop}
 use Rattle.epoch.specs.Epoch.{starting}
 use Rattle.definition.specs.Base.{branch, Tab, put, count, least}
 use Rattle.definition.specs.Links.{null, isTagged}
-use Rattle.definition.specs.Bags.{maxObjects}
+use Rattle.definition.specs.Bags.{maxObjects, items}
 use Rattle.definition.specs.Tables.{Tables, write, withShared, withOwn, withFree}
 use Rattle.definition.specs.Codec.{recordOf, participantOf, placeOf}
 use Rattle.definition.specs.Step.{Out, follow, takeMarked}
-use Rattle.definition.specs.Calls.{lacks, countFull, tokenAbove, needs, opens}
+use Rattle.definition.specs.Calls.{lacks, countFull, tokenAbove, heldAlready, needs, opens}
 use Rattle.definition.specs.Ranges.{withinLimits, isRest, inRange, fresh}
 use Rattle.definition.specs.Layout.{Lent, lent, sized, tablesOf, lentOf}
 use Rattle.definition.specs.Types.{Then, RegisterAt, PushAt, Place, Participant, Word, Call, Answer, slot}
@@ -67,6 +67,10 @@ the p t = participantOf (t .own p)
 unfoldable pub running : ℕ → Tables → Bool
 running p t = not (isRest (the p t .place))
 
+-- 16: the call would retire a token that is in the participant's own bag, below its length
+unfoldable pub twice : ℕ → Call → Tables → Bool
+twice p c t = heldAlready c (items (the p t .held) (t .held p))
+
 -- internal.rs, `Local::register` up to its first access: slot p, with a new entry, one handle and an empty bag
 unfoldable pub newParticipant : Participant
 newParticipant = record { counts = record { guards = 0; handles = 1; pins = 0 }; held = 0; share = 0; place = Place.Register RegisterAt.Head }
@@ -97,11 +101,11 @@ module _ (N M : ℕ) where
   unfoldable pub missing : ℕ → Tables → Bool
   missing p t = takesNode (the p t .place) && (eqb (count M (t .nodeFree)) 0 || eqb (the p t .share) 0)
 
-  -- a call on participant p: 1, 3, 4, 7 or 6, 8, 9, 11
+  -- a call on participant p: 1, 3, 4, 7 or 6, 8, 9, 16, 11
   unfoldable pub callChecks : ℕ → Call → Tables → List Check
   callChecks p c t =
       check 1 (damaged t) ∷ check 3 (absent p t) ∷ check 4 (running p t) ∷ check (lacks c (the p t)) (not (eqb (lacks c (the p t)) 0))
-      ∷ check 8 (countFull c (the p t)) ∷ check 9 (tokenAbove c) ∷ check 11 (noNode p c t) ∷ []
+      ∷ check 8 (countFull c (the p t)) ∷ check 9 (tokenAbove c) ∷ check 16 (twice p c t) ∷ check 11 (noNode p c t) ∷ []
 
   unfoldable pub call : ℕ → Call → Tables → Out
   call p c t = unless (callChecks p c t) t (follow p (opens N c (the p t)) t)

@@ -3,7 +3,8 @@
 -- frees and of register, release, pin also with 32 and 128, the most. Of a run is shown what its last operation did, and where that left
 -- participant 0's word and bag, the global word, and every bag in the queue, with its seal and its items. These are of unmarked steps. Then, from
 -- document 01's table of refusals, 11: given where more is set aside than is free, not given where just as much is. Last, from document 02,
--- No. 2: marked steps. proofs/Worked shows by computation that the definition gives it all. Assumes nothing.
+-- No. 2: marked steps; and No. 6: a token that the bag holds already. proofs/Worked shows by computation that the definition gives it all. Assumes
+-- nothing.
 use mathlib.Core.Bool.{true, false}
 use mathlib.Core.List.{List, [], _∷_, _++_, map}
 use Prim.Native.Nat.{ℕ, zero, suc, _+_}
@@ -146,6 +147,9 @@ unpin = Event.calls 0 Call.Unpin
 abbrev pub flush : Event
 flush = Event.calls 0 Call.Flush
 
+abbrev pub defer : ℕ → Event
+defer x = Event.calls 0 (Call.Defer x)
+
 abbrev pub done : Answer
 done = Answer.Done 0 0
 
@@ -161,7 +165,7 @@ marked = Event.steps 0 true
 
 -- after the first pin: defer 7, flush; then unpin, pin, flush; then repin, flush
 abbrev pub flushed : List Event
-flushed = Event.registers ∷ pin ∷ Event.calls 0 (Call.Defer 7) ∷ flush ∷ []
+flushed = Event.registers ∷ pin ∷ defer 7 ∷ flush ∷ []
 
 abbrev pub again : List Event
 again = flushed ++ unpin ∷ pin ∷ flush ∷ []
@@ -184,6 +188,21 @@ seven = record { seal = 2; holds = Item.Token 7 ∷ [] } ∷ []
 abbrev pub empty : List Queued
 empty = record { seal = 2; holds = [] } ∷ []
 
+-- retirements of the k tokens from x on
+unfoldable pub retires : (k x : ℕ) → List Event
+retires zero x = []
+retires (suc k) x = defer x ∷ retires k (x + 1)
+
+-- registered and pinned, with a full bag: the tokens 0 to 63
+abbrev pub full : List Event
+full = Event.registers ∷ pin ∷ retires 64 0
+
+-- registered and pinned, both of two; 0 retires 7, and again; 1 retires 7; 0 flushes, and retires 7, and again
+abbrev pub doubled : List Event
+doubled = Event.registers ∷ replicate 3 step ++ Event.registers ∷ replicate 3 (Event.steps 1 false) ++ pin ∷ replicate 11 step
+    ++ Event.calls 1 Call.Pin ∷ replicate 10 (Event.steps 1 false) ++ defer 7 ∷ defer 7 ∷ Event.calls 1 (Call.Defer 7) ∷ flush ∷ replicate 13 step
+    ++ defer 7 ∷ defer 7 ∷ []
+
 unfoldable pub table : List Case
 table = map ofDistance distances ++
     -- sole participant, first pin: 9 steps, own word 1, global word 2; unpin 1 step; second pin 2 steps, word 3
@@ -201,7 +220,7 @@ table = map ofDistance distances ++
     ∷ plays released 16 done [] 0 2 [] empty
     ∷ plays (released ++ pin ∷ []) 0 (Answer.Refused 3) [] 0 2 [] empty
     -- M 2: pin, defer 7, flush, defer 8, flush gives 11
-    ∷ plays (flushed ++ Event.calls 0 (Call.Defer 8) ∷ flush ∷ []) 0 (Answer.Refused 11) [] 1 2 (Item.Token 8 ∷ []) seven
+    ∷ plays (flushed ++ defer 8 ∷ flush ∷ []) 0 (Answer.Refused 11) [] 1 2 (Item.Token 8 ∷ []) seven
     -- the same with 32 participants and 128 nodes: the first pin; the flush that frees 7; register, release, and a pin
     ∷ playsWide (Event.registers ∷ pin ∷ []) 9 done [] 1 2 [] []
     ∷ playsWide freeing 11 done inNinth 5 6 (Item.Node (node 0) ∷ []) []
@@ -228,5 +247,19 @@ table = map ofDistance distances ++
       gives = Reply.isBytes (109 ∷ 111 ∷ 114 ∷ 101 ∷ 10 ∷ 109 ∷ 111 ∷ 114 ∷ 101 ∷ 10 ∷ 109 ∷ 111 ∷ 114 ∷ 101 ∷ 10
           ∷ 109 ∷ 111 ∷ 114 ∷ 101 ∷ 10 ∷ 109 ∷ 111 ∷ 114 ∷ 101 ∷ 10 ∷ 100 ∷ 111 ∷ 110 ∷ 101 ∷ 32 ∷ 48 ∷ 10
           ∷ 114 ∷ 101 ∷ 102 ∷ 117 ∷ 115 ∷ 101 ∷ 100 ∷ 32 ∷ 49 ∷ 51 ∷ 10 ∷ []);
+    }
+    -- No. 6: 7 again, which the bag holds: 16, and nothing changes; once it is queued it is taken; the node 0 in the bag is no token 0
+    ∷ plays (Event.registers ∷ pin ∷ defer 7 ∷ defer 7 ∷ []) 0 (Answer.Refused 16) [] 1 2 (Item.Token 7 ∷ []) []
+    ∷ plays (flushed ++ defer 7 ∷ []) 0 done [] 1 2 (Item.Token 7 ∷ []) seven
+    ∷ plays (freeing ++ defer 0 ∷ []) 0 done [] 5 6 (Item.Node (node 0) ∷ Item.Token 0 ∷ []) []
+    -- a full bag, and no node but what is set aside: 16 for the first token in it and for the last, 11 for another
+    ∷ record { asks = Question.answer 1 2 full 1 (defer 0); gives = Reply.isAnswer (Answer.Refused 16) }
+    ∷ record { asks = Question.answer 1 2 full 1 (defer 63); gives = Reply.isAnswer (Answer.Refused 16) }
+    ∷ record { asks = Question.answer 1 2 full 1 (defer 64); gives = Reply.isAnswer (Answer.Refused 11) }
+    -- two participants: the same token in another's bag, and in the queue, is taken
+    ∷ record {
+      asks = Question.answers 2 4 doubled;
+      gives = Reply.areAnswers (replicate 3 more ++ done ∷ replicate 3 more ++ Answer.Done 1 0 ∷ replicate 11 more ++ done ∷ replicate 10 more ++ done
+          ∷ done ∷ Answer.Refused 16 ∷ done ∷ replicate 13 more ++ done ∷ done ∷ Answer.Refused 16 ∷ []);
     }
     ∷ []

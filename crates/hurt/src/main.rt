@@ -1,5 +1,6 @@
 // Bad input, tried for real: lists of 3 participants and 4 nodes, at a few hundred moments of some runs, with every single word changed in
-// turn, four ways. Each is refused with 1, or answered as the definition says.
+// turn, four ways. Each is refused with 1, or answered as the definition says. Then made-up bags: every place of every bag, those beyond its
+// length too, holds the token 2, the node 2 and the slot 2 in turn, and whose bag it is retires the token 2.
 //
 // The runs are read from standard input, as the schedule program's records; a broken record starts afresh. What must be written is made
 // by a second implementation (oracle/hurt.py), not by this code. For each moment: how many cases were refused with 1, refused otherwise, done
@@ -208,7 +209,34 @@ fn act(
     reclaimer::start(N, M, globals, participants, nodes, held, queued)
 }
 
-// Returns what is tried in a case: of nineteen, ten are steps, every other one marked, one is a marked step of a participant that there is not, and
+// Returns the word that a case changes: each has four cases, and after these each word of `held` has three.
+fn word_of(i: usize) -> usize
+    requires { ⌜ i < 2696 ⌝ }
+    ensures { λ r. ⌜ r < 530 ⌝ }
+{
+    if i < 2120 {
+        return i / 4;
+    }
+    82 + (i - 2120) / 3
+}
+
+// Returns what it is changed to: `value` of the word, and in a made-up bag the token 2, the node 2 or the slot 2.
+fn made(i: usize, w: u64, turn: u64) -> u64 {
+    if i < 2120 {
+        return value(w, turn);
+    }
+    9 + (i as u64 - 2120) % 3
+}
+
+// Returns what is tried then: with a made-up bag, that whose bag it is retires the token 2.
+fn asked(i: usize, turn: u64) -> Action {
+    if i < 2120 {
+        return tried(turn);
+    }
+    Action::Call((i as u64 - 2120) / 192, Call::Defer(2))
+}
+
+// Returns what is tried with a changed word: of nineteen, ten are steps, every other one marked, one is a marked step of a participant that there is not, and
 // the rest the calls.
 fn tried(turn: u64) -> Action {
     let p = turn / 19 % 3;
@@ -288,11 +316,11 @@ fn try_case(
     act(globals, participants, nodes, held, queued, freed, action)
 }
 
-// Tries a case and counts what came of it.
+// Tries case `i` of a moment and counts what came of it. `first` numbers the first case.
 fn count_case(
     kept: &[u64],
-    at: usize,
-    turn: u64,
+    i: usize,
+    first: u64,
     globals: &mut [u64],
     participants: &mut [u64],
     nodes: &mut [u64],
@@ -301,11 +329,13 @@ fn count_case(
     freed: &mut [u64],
     t: Tally,
 ) -> Tally
-    requires { ⌜ at < 530 ⌝ }
+    requires { ⌜ i < 2696 ⌝ }
     requires { ⌜ Fits (now kept) (now globals) (now participants) (now nodes) (now held) (now queued) ⌝ }
 {
-    let v = value(kept[at], turn);
-    let action = tried(turn);
+    let at = word_of(i);
+    let turn = std::num::wrapping_add_u64(first, i as u64);
+    let v = made(i, kept[at], turn);
+    let action = asked(i, turn);
     let answer = try_case(
         kept,
         at,
@@ -354,7 +384,7 @@ fn look(
     counted(t, answer, wrong, after)
 }
 
-// Tries every word of a moment, each four ways. `first` numbers the first case.
+// Tries every case of a moment. `first` numbers the first.
 fn try_moment(
     kept: &[u64],
     first: u64,
@@ -376,14 +406,13 @@ fn try_moment(
         sum: 0,
     };
     let mut i: usize = 0;
-    while i < 2120 {
-        let at = i / 4;
-        let turn = std::num::wrapping_add_u64(first, i as u64);
+    while i < 2696 {
+        let case = i;
         i += 1;
         t = count_case(
             kept,
-            at,
-            turn,
+            case,
+            first,
             globals,
             participants,
             nodes,

@@ -247,7 +247,7 @@ pub fn repin(
     )
 }
 
-// internal.rs, `Local::defer`: retires `token`, which stands for a closure.
+// internal.rs, `Local::defer`: retires `token`, which stands for a closure. Refused where the own bag has it already (document 02, No. 6).
 pub fn defer(
     n: usize,
     m: usize,

@@ -5,14 +5,14 @@ use mathlib.Core.Path.{_≡_, refl}
 use mathlib.Core.Bool.{Bool, true, false, false≢true}
 use Prim.Native.Nat.{ℕ, _+_, _≤_, _<_}
 use native.Mathlib.Omega.{arith}
-use Rattle.definition.specs.Base.{Tab, count}
+use Rattle.definition.specs.Base.{Tab, count, among}
 use Rattle.definition.specs.Links.{isNull, index, pointee}
 use Rattle.definition.proofs.Base.{branch-ind, branch-false, count-le}
 use Rattle.theorems.proofs.Ghost.{Use}
 use Rattle.theorems.proofs.Invariant.{ToLinked, Falls, Reached}
 use Rattle.theorems.proofs.Order.{Order, born-linked, to-slot, falls-slot}
 use Rattle.theorems.proofs.Roomy.{count-mono}
-use Rattle.theorems.proofs.Chain.{entries, ends, among, Member, Chained, upTo, up-few, up-some, up-falls, up-more, enough, walk-ends, walk-in, walk-meets}
+use Rattle.theorems.proofs.Chain.{entries, ends, Member, Chained, upTo, up-few, up-some, up-falls, up-more, enough, walk-ends, walk-in, walk-meets}
 use Rattle.theorems.proofs.Types.{Ptr}
 
 -- ---- who is in the list

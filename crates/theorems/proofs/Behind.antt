@@ -9,12 +9,12 @@ use Prim.Native.Nat.{ℕ, _+_, _-_, _≤_, _<_}
 use native.Mathlib.Omega.{arith}
 use lib.Dec.{leb}
 use borrow.Author.Tests.{leb-true, le-leb}
-use Rattle.definition.specs.Base.{Tab}
+use Rattle.definition.specs.Base.{Tab, among}
 use Rattle.definition.specs.Links.{isNull, index}
 use Rattle.definition.proofs.Base.{both, and-intro, count-le}
 use Rattle.theorems.proofs.Ghost.{NodeUse}
 use Rattle.theorems.proofs.Queue.{Lined}
-use Rattle.theorems.proofs.Chain.{entries, ends, among, Member, Chained, upTo, up-some, up-falls, enough, walk-ends, walk-in, walk-meets}
+use Rattle.theorems.proofs.Chain.{entries, ends, Member, Chained, upTo, up-some, up-falls, enough, walk-ends, walk-in, walk-meets}
 
 -- ---- who is in the queue
 

@@ -9,7 +9,7 @@ use Prim.Native.Nat.{ℕ, zero, suc, _+_, _≤_, _<_}
 use native.Mathlib.Omega.{arith}
 use lib.Dec.{eqb, leb}
 use borrow.Author.Tests.{eqb-true, eqb-false, leb-true, le-leb, lt-leb}
-use Rattle.definition.specs.Base.{branch, Tab, count}
+use Rattle.definition.specs.Base.{branch, Tab, count, among}
 use Rattle.definition.specs.Links.{isNull, index}
 use Rattle.definition.proofs.Base.{branch-ind, both, and-intro, count-le}
 use Rattle.theorems.proofs.Roomy.{count-mono, count-more}
@@ -25,11 +25,6 @@ entries (suc k) next w = branch (isNull w) [] (index w ∷ entries k next (next 
 unfoldable pub ends : (fuel : ℕ) → Tab ℕ → ℕ → Bool
 ends zero next w = isNull w
 ends (suc k) next w = branch (isNull w) true (ends k next (next (index w)))
-
--- whether an index is among some
-unfoldable pub among : ℕ → List ℕ → Bool
-among x [] = false
-among x (y ∷ l) = branch (eqb x y) true (among x l)
 
 -- who is among some is the first, or among the rest
 among-split : {P : Type 0} (x y : ℕ) (l : List ℕ) → among x (y ∷ l) ≡ true → (x ≡ y → P) → (among x l ≡ true → P) → P

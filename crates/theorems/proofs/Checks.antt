@@ -4,11 +4,11 @@
 use mathlib.Core.Path.{_≡_, refl, ap, sym, _∙_}
 use mathlib.Core.Logic.{_≢_}
 use mathlib.Core.Bool.{Bool, true, false, _&&_, not, true≢false, false≢true}
-use mathlib.Core.List.{List, [], _∷_}
+use mathlib.Core.List.{[]}
 use Prim.Native.Nat.{ℕ, _+_, _%_, _^_, _<_}
 use native.Mathlib.Omega.{arith}
 use lib.Dec.{eqb, ltb}
-use borrow.Author.Tests.{eqb-true, eqb-false, ltb-false}
+use borrow.Author.Tests.{eqb-false, ltb-false}
 use Rattle.epoch.specs.Epoch.{starting}
 use Rattle.definition.specs.Base.{branch, put, count, least, listed}
 use Rattle.definition.specs.Links.{null, isTagged}
@@ -18,30 +18,21 @@ use Rattle.definition.specs.Codec.{recordOf, participantOf}
 use Rattle.definition.specs.Calls.{lacks, countFull, tokenAbove, needs, opens}
 use Rattle.definition.specs.Ranges.{isRest}
 use Rattle.definition.specs.Rule.{asks, fails}
-use Rattle.definition.specs.Step.{Out, answerOf, follow, ruleAt, takeStep, takeMarked}
+use Rattle.definition.specs.Step.{Out, ruleAt, takeStep, takeMarked}
 use Rattle.definition.specs.Public as Public
-use Rattle.definition.specs.Public.{Check, check, refusal, refused, unless, the, newParticipant, enrolled, damaged, absent, missing, callChecks, registerChecks, stepChecks}
+use Rattle.definition.specs.Public.{refusal, the, newParticipant, enrolled, damaged, absent, missing, callChecks, registerChecks, stepChecks}
 use Rattle.definition.proofs.Base.{branch-ind, same?, put-same, put-other, count-least, least-marked}
 use Rattle.definition.proofs.Codec.{participant-back}
-use Rattle.definition.proofs.Refusals.{passes, not-false, parts, here}
+use Rattle.definition.proofs.Refusals.{passes, passes-lack, skips, other, none-left, branch-other, follow-answers, unless-never, not-false, parts, here}
 use Rattle.theorems.proofs.Machine.{view, map-put}
 use Rattle.theorems.proofs.Ghost.{Ghost, G}
 use Rattle.theorems.proofs.Inv.{Inv, Steps, Calls, registered}
 use Rattle.theorems.proofs.Inv as I
 use Rattle.theorems.proofs.Roomy.{step-has-node}
 use Rattle.theorems.proofs.Stored.{Stored, is-rest, never-damaged, never-missing}
-use Rattle.theorems.proofs.Types.{Place, Participant, Word, End, After, Call, Answer}
+use Rattle.theorems.proofs.Types.{Place, Participant, Word, Call, Answer}
 
 -- ---- checks, one by one
-
--- the check whose number is what it looks at
-passes-lack : (n : ℕ) (l : List Check) → refusal (check n (not (eqb n 0)) ∷ l) ≡ 0 → (n ≡ 0) × (refusal l ≡ 0)
-unfolding refusal branch
-passes-lack n l h = by (eqb n 0) refl h
-  where
-    by : (b : Bool) → eqb n 0 ≡ b → branch (not b) n (refusal l) ≡ 0 → (n ≡ 0) × (refusal l ≡ 0)
-    by true e z = (eqb-true n 0 e, z)
-    by false e z = absurd (eqb-false n 0 e z)
 
 -- a negation
 not-true : (b : Bool) → not b ≡ true → b ≡ false
@@ -93,7 +84,8 @@ passes-call N M p c t g inv h =
     let e = passes-lack (lacks c (the p t)) _ (d .1) in
     let f = passes 8 (countFull c (the p t)) _ (λ z. omega arith) (e .1) in
     let i = passes 9 (tokenAbove c) _ (λ z. omega arith) (f .1) in
-    let j = passes 11 (ltb (count M (t .nodeFree)) (t .aside + needs N c (the p t))) _ (λ z. omega arith) (i .1) in
+    let j = passes 16 (Public.twice p c t) _ (λ z. omega arith) (i .1) in
+    let k = passes 11 (ltb (count M (t .nodeFree)) (t .aside + needs N c (the p t))) _ (λ z. omega arith) (j .1) in
     let r = not-false (isRest (the p t .place)) (d .0) in
     record {
       here = here N M p t (b .0);
@@ -103,7 +95,7 @@ passes-call N M p c t g inv h =
       able = e .0;
       below = f .0;
       token = i .0;
-      room = let k = ltb-false (count M (t .nodeFree)) (t .aside + needs N c (the p t)) (j .0) in omega arith;
+      room = let n = ltb-false (count M (t .nodeFree)) (t .aside + needs N c (the p t)) (k .0) in omega arith;
     }
 
 -- a registering: the smallest free slot is one
@@ -117,35 +109,14 @@ passes-register N M t h =
 
 -- ---- refusal 1
 
--- the number that a list of checks gives, past one that does not hold
-skips : (n : ℕ) (b : Bool) (l : List Check) → b ≡ false → refusal (check n b ∷ l) ≡ refusal l
-unfolding refusal branch
-skips n b l e = rw e refl
-
--- neither a check of another number nor those after it
-other : (n : ℕ) (b : Bool) (l : List Check) → n ≢ 1 → (b ≡ false → refusal l ≢ 1) → refusal (check n b ∷ l) ≢ 1
-unfolding refusal branch
-other n true l ne h = ne
-other n false l ne h = h refl
-
--- no check, no refusal
-none-left : refusal [] ≢ 1
-unfolding refusal
-none-left e = omega arith
-
--- neither 6
+-- it is neither 6 nor 7
 six : (b : Bool) → branch {A = ℕ} b 6 0 ≢ 1
-unfolding branch
-six true e = omega arith
-six false e = omega arith
+six b = branch-other 6 b (λ z. omega arith) (λ z. omega arith)
 
--- nor 7 is 1
 seven : (b : Bool) → branch {A = ℕ} b 7 0 ≢ 1
-unfolding branch
-seven true e = omega arith
-seven false e = omega arith
+seven b = branch-other 7 b (λ z. omega arith) (λ z. omega arith)
 
--- a lacking count is refused by 6 or 7
+-- by which a lacking count is refused
 lacks-other : (c : Call) (o : Participant) → lacks c o ≢ 1
 unfolding lacks
 lacks-other Call.Acquire o = seven (eqb (o .counts .handles) 0)
@@ -164,7 +135,7 @@ module _ (N M : ℕ) (t : Tables) (g : Ghost) (inv : Inv N M (view t) g) (st : S
       other 12 (ltb places maxObjects) _ (λ z. omega arith)
       (λ _. other 3 (absent N M p t) _ (λ z. omega arith)
       (λ a. other 5 (not (Public.running p t)) _ (λ z. omega arith)
-      (λ _ z. none-left (sym (skips 1 (missing N M p t) [] (never-missing N M p t g inv (here N M p t a))) ∙ z))))
+      (λ _ z. none-left (λ z. omega arith) (sym (skips 1 (missing N M p t) [] (never-missing N M p t g inv (here N M p t a))) ∙ z))))
       (sym (skips 1 (damaged N M t) _ (never-damaged N M t g inv st)) ∙ e)
 
   -- of a call
@@ -176,40 +147,18 @@ module _ (N M : ℕ) (t : Tables) (g : Ghost) (inv : Inv N M (view t) g) (st : S
       (λ _. other (lacks c (the p t)) (not (eqb (lacks c (the p t)) 0)) _ (lacks-other c (the p t))
       (λ _. other 8 (countFull c (the p t)) _ (λ z. omega arith)
       (λ _. other 9 (tokenAbove c) _ (λ z. omega arith)
-      (λ _. other 11 (Public.noNode N M p c t) _ (λ z. omega arith) (λ _. none-left))))))
+      (λ _. other 16 (Public.twice p c t) _ (λ z. omega arith)
+      (λ _. other 11 (Public.noNode N M p c t) _ (λ z. omega arith) (λ _. none-left (λ z. omega arith))))))))
       (sym (skips 1 (damaged N M t) _ (never-damaged N M t g inv st)) ∙ e)
 
   -- of a registering
   register-checks : refusal (registerChecks N M t) ≢ 1
   unfolding registerChecks
-  register-checks e = other 10 (eqb (count N (t .slotFree)) 0) _ (λ z. omega arith) (λ _. none-left) (sym (skips 1 (damaged N M t) _ (never-damaged N M t g inv st)) ∙ e)
+  register-checks e = other 10 (eqb (count N (t .slotFree)) 0) _ (λ z. omega arith) (λ _. none-left (λ z. omega arith)) (sym (skips 1 (damaged N M t) _ (never-damaged N M t g inv st)) ∙ e)
 
--- an answer that is no refusal, and a refusal of another number
-pub answers : (e : End) (k r : ℕ) → answerOf e k ≢ Answer.Refused r
-unfolding answerOf
-answers End.GoesOn k r e = let z : _≡_ {A = ℕ} 0 1 = cc in omega arith
-answers (End.EndsWith v) k r e = let z : _≡_ {A = ℕ} 0 1 = cc in omega arith
-
--- nor that of a registering
+-- the answer of a registering is no refusal
 more-answers : (k r : ℕ) → Answer.More k ≢ Answer.Refused r
 more-answers k r e = let z : _≡_ {A = ℕ} 0 1 = cc in omega arith
-
--- a refusal has one number
-pub refused-is : (n r : ℕ) → Answer.Refused n ≡ Answer.Refused r → n ≡ r
-refused-is n r e = cc
-
--- what is answered where the checks let it through
-unless-never : (l : List Check) (t : Tables) (out : Out) (r : ℕ) → refusal l ≢ r → out .answer ≢ Answer.Refused r → unless l t out .answer ≢ Answer.Refused r
-unfolding unless
-unless-never l t out r ne h = by (eqb (refusal l) 0)
-  where
-    by : (b : Bool) → branch b out (refused (refusal l) t) .answer ≢ Answer.Refused r
-    by b = branch-ind (λ (o : Out). o .answer ≢ Answer.Refused r) b (λ _. h) (λ _ e. ne (refused-is (refusal l) r e))
-
--- what follows is no refusal
-follow-answers : (p r : ℕ) (a : After) (t : Tables) → follow p a t .answer ≢ Answer.Refused r
-unfolding follow
-follow-answers p r a t = answers (a .end) _ r
 
 -- refusal 1 never occurs: of a step, of a call, of a registering
 pub step-never-1 : (N M : ℕ) (marked : Bool) (places p : ℕ) (t : Tables) (g : Ghost) → Inv N M (view t) g → Stored N M t → Public.step N M marked places p t .answer ≢ Answer.Refused 1

@@ -89,7 +89,7 @@ onTables = record {
 
 computed : onTables ≡ expected
 unfolding onTables told Epoch.starting Epoch.isPinned Epoch.unpinned Epoch.pinned Epoch.successor Epoch.gap Epoch.signed Epoch.halved Epoch.wrappingSub
-    Base.branch Base.put Base.sum Base.count Base.all Base.least Base.listed Links.null Links.link Links.isNull Links.index Links.isTagged
+    Base.branch Base.put Base.sum Base.count Base.all Base.least Base.listed Base.among Links.null Links.link Links.isNull Links.index Links.isTagged
     Links.tagged Links.pointee Links.pointer Links.nodeAt Bags.maxObjects Bags.isExpired Bags.itemWord Bags.itemOf Bags.items Bags.moved
     Bags.tokens Bags.freeSlots Bags.freeNodes Tables.read Tables.write Flow.on Flow.done Flow.also Flow.finalize Flow.collected Flow.collectSteps
     Flow.pops Flow.advanced Flow.walk Flow.waiting Flow.placed Flow.defer Flow.pushed Rule.asks Rule.follows Rule.agrees Rule.sees Rule.leaves
@@ -98,11 +98,11 @@ unfolding onTables told Epoch.starting Epoch.isPinned Epoch.unpinned Epoch.pinne
     Internal.advanceStore Internal.finalWord Internal.rule Codec.ownerNumber Codec.predPointer Codec.thenCode Codec.codeOf Codec.recordOf
     Codec.ownerOf Codec.predOf Codec.thenOf Codec.placeOf Codec.participantOf Codec.sameCode Step.putItem Step.sealInto Step.inBag Step.freeBag
     Step.settle Step.freedBy Step.answerOf Step.follow Step.ruleAt Step.takeStep Step.takeMarked Calls.maxCount Calls.maxToken Calls.lacks Calls.countFull
-    Calls.tokenAbove Calls.finalizes Calls.overflow Calls.pinNeeds Calls.needs Calls.begins Calls.opens Ranges.maxParticipants Ranges.maxNodes
+    Calls.tokenAbove Calls.heldAlready Calls.finalizes Calls.overflow Calls.pinNeeds Calls.needs Calls.begins Calls.opens Ranges.maxParticipants Ranges.maxNodes
     Ranges.withinLimits Ranges.bitWords Ranges.isRest Ranges.slotIn Ranges.nodeIn Ranges.ptrIn Ranges.predIn Ranges.cursorIn Ranges.popsIn
     Ranges.thenIn Ranges.registerIn Ranges.walkIn Ranges.popIn Ranges.pushIn Ranges.placeIn Ranges.entryPointerIn Ranges.headPointerIn
     Ranges.nodePointerIn Ranges.endPointerIn Ranges.itemIn Ranges.bagIn Ranges.codeIn Ranges.recordIn Ranges.bitsIn Ranges.sharedIn
-    Ranges.inRange Ranges.fresh Public.refusal Public.unless Public.takesNode Public.running Public.newParticipant Public.enrolled Public.damaged
+    Ranges.inRange Ranges.fresh Public.refusal Public.unless Public.takesNode Public.running Public.twice Public.newParticipant Public.enrolled Public.damaged
     Public.absent Public.noNode Public.missing Public.callChecks Public.call Public.registerChecks Public.register Public.stepChecks Public.step
     Waiting.times Waiting.waitsAt Waiting.takenNode Waiting.poppedNode Waiting.inOwn Waiting.inNode Waiting.carried Waiting.over
     Waiting.waitingWith Waiting.waitingQueued Waiting.waiting Waiting.defers Waiting.ifAccepted Order.hanging OnTables.accepts OnTables.does

@@ -21,6 +21,7 @@ use Rattle.definition.specs.Step.{answerOf}
 use Rattle.definition.specs.Public.{Outcome, lending, given, kept, startLent, damaged, running}
 use Rattle.definition.specs.Survey.{reportOf, Surveyed, surveyLent}
 use Rattle.definition.proofs.Base.{both, branch-true}
+use Rattle.definition.proofs.Refusals.{answers, refused-is}
 use Rattle.theorems.specs.Waiting.{times, waiting}
 use Rattle.theorems.specs.Events.{Event, frees, number, words, Pinned, Changed, Frees, InOrder}
 use Rattle.theorems.specs.Events as S
@@ -31,7 +32,6 @@ use Rattle.theorems.proofs.Machine.{view}
 use Rattle.theorems.proofs.Ghost.{G}
 use Rattle.theorems.proofs.Stored.{never-damaged}
 use Rattle.theorems.proofs.Runs.{Sound, sound-run, sound-fresh, sound-after, fresh-epoch, never-1}
-use Rattle.theorems.proofs.Checks.{answers, refused-is}
 use Rattle.theorems.proofs.Tokens.{balanced}
 use Rattle.theorems.proofs.Late.{not-early}
 use Rattle.theorems.proofs.Guarded as G′

@@ -23,9 +23,19 @@ pick-requires-5 c κs = search needs
 pick-requires-6 : tie.Need-pick-requires-6
 pick-requires-6 c κs = search needs
 
+pick-requires-7 : tie.Need-pick-requires-7
+pick-requires-7 c κs = search needs
+
 returns : tie.Need-returns
 unfolding refusal
-returns c = rw (c .pick6 .ensures, c .before .pick5 .ensures, c .before .before .pick4 .ensures, c .before .before .before .pick3 .ensures, c .before .before .before .before .pick2 .ensures, c .before .before .before .before .before .pick .ensures)
+returns c =
+    let rest = c .before in
+    let count = rest .before in
+    let limit = count .before in
+    let token = limit .before in
+    let bag = token .before in
+    let nodes = bag .before in
+    rw (c .pick7 .ensures, rest .pick6 .ensures, count .pick5 .ensures, limit .pick4 .ensures, token .pick3 .ensures, bag .pick2 .ensures, nodes .pick .ensures)
 
 pub call-refusal-spec : {M : Type 1} → statement M
 call-refusal-spec =
@@ -37,4 +47,5 @@ call-refusal-spec =
     pick-requires-4
     pick-requires-5
     pick-requires-6
+    pick-requires-7
     returns)

@@ -19,13 +19,13 @@ call-at-requires c κs =
     let w = damage-none _ _ _ (sym (c .before .damage .ensures) ∙ c .if1 .left) in
     let t = limits-small _ _ (w .limits) in
     let s = sized-is _ _ _ (w .lengths) in
-    ((omega arith, (omega arith, (omega arith, omega arith))), (nodes-within _ _ _ w, λ h. held-within _ _ _ w _ h))
+    ((omega arith, (omega arith, (omega arith, (omega arith, omega arith)))), (nodes-within _ _ _ w, λ h. held-within _ _ _ w _ h))
 
 answer-requires : tie.Need-answer-requires
 answer-requires c κs = search needs
 
 returns-2 : tie.Need-returns-2
-returns-2 c = c .answer .ensures ∙ call-then _ _ _ _ (c .before .before .before .damage .ensures) _ _ _ (c .before .before .if1 .left) (c .before .call-at .ensures _ _ _)
+returns-2 c = c .answer .ensures ∙ call-then _ _ _ _ (c .before .before .before .damage .ensures) _ _ _ (c .before .before .if1 .left) (c .before .call-at .ensures _ _)
 
 pub check-call-spec : {M : Type 1} → statement M
 check-call-spec =

@@ -4,17 +4,23 @@ use borrow.Author.Needs.{needs}
 use Rattle.hurt.proofs.count_case.Statement.{statement}
 use Rattle.hurt.proofs.count_case.Tie as tie
 
-mul-value : tie.Need-mul-value
-mul-value c = search needs
+word-of-requires : tie.Need-word-of-requires
+word-of-requires c κs = search needs
 
-shared-slice-read-value : tie.Need-shared-slice-read-value
-shared-slice-read-value c = search needs
+wrapping-add-u64-requires : tie.Need-wrapping-add-u64-requires
+wrapping-add-u64-requires c κs = search needs
 
-value-requires : tie.Need-value-requires
-value-requires c κs = search needs
+mul-made : tie.Need-mul-made
+mul-made c = search needs
 
-tried-requires : tie.Need-tried-requires
-tried-requires c κs = search needs
+shared-slice-read-made : tie.Need-shared-slice-read-made
+shared-slice-read-made c = search needs
+
+made-requires : tie.Need-made-requires
+made-requires c κs = search needs
+
+asked-requires : tie.Need-asked-requires
+asked-requires c κs = search needs
 
 try-case-requires : tie.Need-try-case-requires
 try-case-requires c κs = search needs
@@ -22,7 +28,7 @@ try-case-requires c κs = search needs
 look-requires : tie.Need-look-requires
 look-requires c κs =
     let tried = c .before .before .before .before .before .before .before .before .before .before .before .before .before .before .before .before .before .before in
-    let fits = tried .before .before .before .before .before .before .before .before .before .before .before .before .before .before .before .before .before .pre .1 in
+    let fits = tried .before .before .before .before .before .before .before .before .before .before .before .before .before .before .before .before .before .before .before .pre .1 in
     let same = tried .try-case .kept .1 .1 .1 .1 in
     (fits .0, same .0 ∙ fits .1, same .1 .0 ∙ fits .2, same .1 .1 .0 ∙ fits .3, same .1 .1 .1 .0 ∙ fits .4, same .1 .1 .1 .1 .0 ∙ fits .5)
 
@@ -51,10 +57,12 @@ pub count-case-spec : {M : Type 1} → statement M
 count-case-spec =
     tie.close
     (tie.spec
-    mul-value
-    shared-slice-read-value
-    value-requires
-    tried-requires
+    word-of-requires
+    wrapping-add-u64-requires
+    mul-made
+    shared-slice-read-made
+    made-requires
+    asked-requires
     try-case-requires
     look-requires
     same-length

@@ -9,17 +9,14 @@ use Rattle.hurt.proofs.try_moment.Tie as tie
 
 abbrev Inv-loop : tie.InvT-loop
 Inv-loop kept first globals₀ participants₀ nodes₀ held₀ queued₀ freed₀ t₀ i₀ globals participants nodes held queued freed t i =
-    (i ≤ 2120) × (length globals ≡ length globals₀) × (length participants ≡ length participants₀) × (length nodes ≡ length nodes₀) × (length held ≡ length held₀) × (length queued ≡ length queued₀) × (length freed ≡ length freed₀)
+    (i ≤ 2696) × (length globals ≡ length globals₀) × (length participants ≡ length participants₀) × (length nodes ≡ length nodes₀) × (length held ≡ length held₀) × (length queued ≡ length queued₀) × (length freed ≡ length freed₀)
 
 abbrev μ-loop : tie.MeasureT-loop
 μ-loop kept first globals₀ participants₀ nodes₀ held₀ queued₀ freed₀ t₀ i₀ globals participants nodes held queued freed t i =
-    2120 - i
+    2696 - i
 
 loop-holds : tie.Need-loop-holds Inv-loop μ-loop
 loop-holds c = search needs
-
-wrapping-add-u64-requires : tie.Need-wrapping-add-u64-requires Inv-loop μ-loop
-wrapping-add-u64-requires c κs = search needs
 
 add-i : tie.Need-add-i Inv-loop μ-loop
 add-i c = search needs
@@ -61,7 +58,6 @@ try-moment-spec =
     Inv-loop
     μ-loop
     loop-holds
-    wrapping-add-u64-requires
     add-i
     count-case-requires
     loop-less
