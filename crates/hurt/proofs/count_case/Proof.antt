@@ -27,8 +27,19 @@ try-case-requires c κs = search needs
 
 look-requires : tie.Need-look-requires
 look-requires c κs =
-    let tried = c .before .before .before .before .before .before .before .before .before .before .before .before .before .before .before .before .before .before in
-    let fits = tried .before .before .before .before .before .before .before .before .before .before .before .before .before .before .before .before .before .before .before .pre .1 in
+    let look = c .before .before .before .before .before in
+    let freed = look .before .before in
+    let queued = freed .before .before in
+    let held = queued .before .before in
+    let nodes = held .before .before in
+    let participants = nodes .before .before in
+    let globals = participants .before .before in
+    let tried = globals .before in
+    let second = tried .before .before .before .before .before in
+    let asked = second .before .before in
+    let word = asked .before .before .before .before in
+    let lists = word .before .before .before .before in
+    let fits = lists .before .before .before .before .pre .1 in
     let same = tried .try-case .kept .1 .1 .1 .1 in
     (fits .0, same .0 ∙ fits .1, same .1 .0 ∙ fits .2, same .1 .1 .0 ∙ fits .3, same .1 .1 .1 .0 ∙ fits .4, same .1 .1 .1 .1 .0 ∙ fits .5)
 

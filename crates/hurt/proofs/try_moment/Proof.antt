@@ -9,7 +9,8 @@ use Rattle.hurt.proofs.try_moment.Tie as tie
 
 abbrev Inv-loop : tie.InvT-loop
 Inv-loop kept first globals₀ participants₀ nodes₀ held₀ queued₀ freed₀ t₀ i₀ globals participants nodes held queued freed t i =
-    (i ≤ 2696) × (length globals ≡ length globals₀) × (length participants ≡ length participants₀) × (length nodes ≡ length nodes₀) × (length held ≡ length held₀) × (length queued ≡ length queued₀) × (length freed ≡ length freed₀)
+    (i ≤ 2696) × (length globals ≡ length globals₀) × (length participants ≡ length participants₀) × (length nodes ≡ length nodes₀)
+    × (length held ≡ length held₀) × (length queued ≡ length queued₀) × (length freed ≡ length freed₀)
 
 abbrev μ-loop : tie.MeasureT-loop
 μ-loop kept first globals₀ participants₀ nodes₀ held₀ queued₀ freed₀ t₀ i₀ globals participants nodes held queued freed t i =
