@@ -292,7 +292,7 @@ class World:
                 if token == MINE and self.glob[5] == 0:
                     pinned = (q for q in range(self.n) if not self.free[q] and self.word[q] & 1 and not (self.reader and q == p))
                     self.glob[5], self.glob[6] = 1, sum(1 << q for q in pinned)
-            self.done(p, 0)
+            self.done(p, 64 - len(self.bag[p]) if action == DEFER else 0)
 
 
 def records_from(w):

@@ -266,8 +266,10 @@ class Run:
         return self.on(12, OWNER=owner, EPOCH=epoch, PRED=pred, CURR=curr // 2 - 1)
 
     def put(self, item):
+        """Puts an item into the own bag; gives the places left (document 02, No. 9)."""
         self.port.h[64 * self.i + self.o[HELD]] = item
         self.o[HELD] += 1
+        return 64 - self.o[HELD]
 
     def free(self, node):
         t = self.port
@@ -286,8 +288,7 @@ class Run:
         if self.o[HELD] >= 64:
             return self.on(22, THEN=then, **w)
         if then == 0:
-            self.put(4 * w["TOKEN"] + 1)
-            return self.done()
+            return self.done(self.put(4 * w["TOKEN"] + 1))
         if then == 1:
             self.put(4 * w["CURR"] + 3)
             return self.walk(w["OWNER"], w["EPOCH"], w["PRED"], w["SUCC"])

@@ -235,10 +235,12 @@ impl Judge {
         Outcome { answer, freed, access, seen: Some(seen) }
     }
 
+    /// A defer is done with the places left in its participant's bag (document 02, No. 9): as long as the crate now has it.
     fn answer(&self, slot: usize, action: u8, ended: bool) -> Answer {
         match (ended, action) {
             (false, _) => Answer::More,
             (true, REGISTER) => Answer::Done(slot as u64),
+            (true, DEFER) => Answer::Done((MAX_OBJECTS - world::bag_len(slot)) as u64),
             (true, _) => Answer::Done(0),
         }
     }

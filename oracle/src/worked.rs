@@ -1,5 +1,5 @@
 //! The runs that document 01 works by hand, [P] or not, each with what the document says and what came out; two of a double retirement;
-//! and some with marked steps.
+//! and some with marked steps. A defer is done with the places left in the bag (document 02, No. 9).
 
 use crate::epoch::Epoch;
 use crate::judge::Answer;
@@ -49,10 +49,10 @@ impl Worked {
             self.expect(&format!("{:?}", record.bytes()), answer, Answer::Refused(number));
         }
     }
-    /// A token that is accepted, and done at once.
-    fn retires(&mut self, slot: usize, token: u32) {
+    /// A token that is accepted, and done at once, with so many places left.
+    fn retires(&mut self, slot: usize, token: u32, left: u64) {
         let answer = self.run.call(DEFER, slot, token).answer;
-        self.expect(&format!("{slot} retires {token}"), answer, Answer::Done(0));
+        self.expect(&format!("{slot} retires {token}"), answer, Answer::Done(left));
     }
     fn registered(mut self) -> Worked {
         self.run.register();
@@ -139,8 +139,7 @@ fn seven_freed() -> Worked {
          flush 11 steps, 7 freed in the 9th, node 0 now held",
     )
     .pinned();
-    let deferred = w.run.call(DEFER, 0, 7).answer;
-    w.expect("defer", deferred, Answer::Done(0));
+    w.retires(0, 7, 63);
     let first = w.run.operation(FLUSH, 0, 0);
     w.expect("steps of the first flush", first.len(), 11);
     w.expect("freed by it", first.iter().map(|step| step.freed.len()).sum(), 0);
@@ -184,12 +183,12 @@ fn register_release() -> Worked {
 }
 
 fn full_bag() -> Worked {
-    let mut w = Worked::new("sixty-five defers", "64 finish at once; the 65th takes 5 steps and is alone in the bag").pinned();
-    let answers = (0..64).map(|token| w.run.call(DEFER, 0, token).answer);
-    let at_once = answers.filter(|answer| *answer == Answer::Done(0)).count();
-    w.expect("finished at once", at_once, 64);
-    let steps = w.count(DEFER, 0, 64);
-    w.expect("steps of the 65th", steps, 5);
+    let says = "64 finish at once; the 65th takes 5 steps and is alone in the bag; (document 02, No. 9) with 63 to 0 places left, and 63";
+    let mut w = Worked::new("sixty-five defers", says).pinned();
+    let answers: Vec<Answer> = (0..64).map(|token| w.run.call(DEFER, 0, token).answer).collect();
+    w.expect("finished at once, with", answers, (0..64).rev().map(Answer::Done).collect());
+    let steps = w.run.operation(DEFER, 0, 64);
+    w.expect("steps of the 65th, and its answer", (steps.len(), steps[4].answer), (5, Answer::Done(63)));
     w.expect("bag", w.run.judge.bag(0), vec![Item::Token(64)]);
     w.expect("length of the queued bag", world::node_bag(1).len(), 64);
     for action in [REPIN, FLUSH, REPIN] {
@@ -280,7 +279,7 @@ fn node_item() -> Worked {
     w.run.call(DEFER, 0, 8);
     w.run.operation(FLUSH, 0, 0);
     w.expect("popper's bag after the pop", w.run.judge.bag(0), vec![Item::Node(0)]);
-    w.run.call(DEFER, 0, 9);
+    w.retires(0, 9, 62);
     w.expect("and with a token behind it", w.run.judge.bag(0), vec![Item::Node(0), Item::Token(9)]);
     w
 }
@@ -471,15 +470,15 @@ fn double_retirement() -> Worked {
     w.refused(6, [Record::new(DEFER, a, 7)]);
     w.run.operation(PIN, a, 0);
     w.run.operation(PIN, b, 0);
-    w.retires(a, 7);
+    w.retires(a, 7, 62);
     w.refused(16, [Record::new(DEFER, a, 7)]);
     w.refused(9, [Record::new(DEFER, a, 2_147_483_655)]);
     w.expect("bag after these", w.run.judge.bag(a), vec![Item::Slot(2), Item::Token(7)]);
     // The slot of that number, which its pin unlinked, is another item.
-    w.retires(a, 2);
-    w.retires(b, 7);
+    w.retires(a, 2, 61);
+    w.retires(b, 7, 63);
     w.run.operation(FLUSH, a, 0);
-    w.retires(a, 7);
+    w.retires(a, 7, 63);
     w.refused(16, [Record::new(DEFER, a, 7)]);
     double_in_a_full_bag(&mut w, a);
     node_of_that_number(&mut w, a, b);
@@ -499,7 +498,7 @@ fn double_in_a_full_bag(w: &mut Worked, a: usize) {
     w.expect("steps of the 65th", steps, 5);
     w.expect("bag", w.run.judge.bag(a), vec![Item::Token(163)]);
     w.refused(16, [Record::new(DEFER, a, 163)]);
-    w.retires(a, 7);
+    w.retires(a, 7, 62);
 }
 
 /// Nor does a node of that number count. What was refused is not freed: 7 was accepted four times.
@@ -510,7 +509,7 @@ fn node_of_that_number(w: &mut Worked, a: usize, b: usize) {
     let freed: Vec<u32> = w.freed(FLUSH, a).into_iter().flat_map(|(_, tokens)| tokens).collect();
     w.expect("tokens freed, and how often 7", (freed.len(), freed.iter().filter(|token| **token == 7).count()), (69, 4));
     w.expect("bag", w.run.judge.bag(a), (1..=4).map(Item::Node).collect());
-    w.retires(a, 4);
+    w.retires(a, 4, 59);
     w.refused(16, [Record::new(DEFER, a, 4)]);
 }
 

@@ -58,7 +58,7 @@ module _ (L : ℕ) (a : Ptr → ℕ) (s : Shared) (k : ℕ) where
 
   placed-less : (d : Deferring) (o : Participant) → Under o (deferLeft L a s d) → Less (placed d o)
   unfolding placed deferLeft
-  placed-less (Deferring.Token token) o h = also-less _ _ (done-less 0 o (omega arith))
+  placed-less (Deferring.Token token) o h = also-less _ _ (done-less _ o (omega arith))
   placed-less (Deferring.Slot t c succ) o h = also-less _ _ (walk-less t (c .pred) succ o (omega arith))
   placed-less (Deferring.Node p head next) o h = also-less _ _ (pops-less (p .owner) (p .epoch) (p .left - 1) o (omega arith))
 

@@ -16,7 +16,7 @@ ghost use Prim.Native.Nat.{_+_, _*_, _^_, _≤_, _<_};
 ghost use lib.ListN.{length, set, drop};
 ghost use lib.Seq.{paste, sets};
 ghost use Rattle.definition.specs.Base.{among};
-ghost use Rattle.definition.specs.Bags.{itemWord, itemOf, items, tokens};
+ghost use Rattle.definition.specs.Bags.{placesLeft, itemWord, itemOf, items, tokens};
 ghost use Rattle.bits.specs.Bits.{wordsAt};
 ghost use Rattle.bags.specs.Bags.{stamped, bagLen, bagItems, filled, freeItem, freeItems, hasBit, haveBits};
 
@@ -50,14 +50,16 @@ pub fn item_of(w: u64) -> Item
     }
 }
 
-// Puts an item at place `k` of participant `p`'s bag.
-pub fn put_item(held: &mut [u64], p: usize, k: usize, item: Item)
+// Puts an item at place `k` of participant `p`'s bag, which has room. Returns the places left after it.
+pub fn put_item(held: &mut [u64], p: usize, k: usize, item: Item) -> u64
+    requires { ⌜ k < 64 ⌝ }
     requires { ⌜ (p * 64 + k < length (now held)) × (itemWord item < 2 ^ 64) ⌝ }
-    ensures { λ r. ⌜ now (held .exit) ≡ set (now (held .entry)) (p * 64 + k) (itemWord item) ⌝ }
+    ensures { λ r. ⌜ (r ≡ placesLeft (k + 1)) × (now (held .exit) ≡ set (now (held .entry)) (p * 64 + k) (itemWord item)) ⌝ }
 {
     let place = p * ROW + k;
     let w = item_word(item);
     held[place] = w;
+    Bag::places_left(k as u64 + 1)
 }
 
 // Returns whether one of the `k` items of participant `p`'s bag is this token.

@@ -101,7 +101,7 @@ module _ (N M : ℕ) where
 
   placed-kept : (d : Deferring) (o : Participant) → ThenIn N M (Then.Defer d) → PlacedIn (placed d o)
   unfolding placed ThenIn
-  placed-kept (Deferring.Token token) o h = also-kept _ _ (done-kept 0 o)
+  placed-kept (Deferring.Token token) o h = also-kept _ _ (done-kept _ o)
   placed-kept (Deferring.Slot t c succ) o h = also-kept _ _ (walk-kept t (c .pred) succ o (h .0 .0) (h .1))
   placed-kept (Deferring.Node p head next) o h = also-kept _ _ (pops-kept (p .owner) (p .epoch) (p .left - 1) o (let k = h .0 .1 in omega arith))
 
@@ -221,7 +221,7 @@ module _ (s : ℕ) where
 
   placed-share : (d : Deferring) (o : Participant) → o .share ≤ s → ShareLe s (placed d o)
   unfolding placed
-  placed-share (Deferring.Token token) o h = also-share _ _ (done-share 0 o)
+  placed-share (Deferring.Token token) o h = also-share _ _ (done-share _ o)
   placed-share (Deferring.Slot t c succ) o h = also-share _ _ (walk-share t (c .pred) succ o h)
   placed-share (Deferring.Node p head next) o h = also-share _ _ (pops-share (p .owner) (p .epoch) (p .left - 1) o h)
 

@@ -9,4 +9,5 @@ pub mod Refusals
 pub mod Marks
 pub mod Held
 pub mod Double
+pub mod Values
 pub mod Worked

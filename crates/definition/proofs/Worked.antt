@@ -24,7 +24,7 @@ use Rattle.definition.specs.Worked
 pub worked : map (λ (c : Worked.Case). Worked.reply (c .asks)) Worked.table ≡ map (λ (c : Worked.Case). c .gives) Worked.table
 unfolding Epoch.starting Epoch.isPinned Epoch.unpinned Epoch.pinned Epoch.successor Epoch.gap Epoch.signed Epoch.halved
     Epoch.wrappingSub Distances.distances Base.branch Base.put Base.sum Base.count Base.all Base.least Base.listed Base.among Links.null Links.link
-    Links.isNull Links.index Links.isTagged Links.tagged Links.pointee Links.pointer Links.nodeAt Bags.maxObjects Bags.isExpired
+    Links.isNull Links.index Links.isTagged Links.tagged Links.pointee Links.pointer Links.nodeAt Bags.maxObjects Bags.placesLeft Bags.isExpired
     Bags.itemWord Bags.itemOf Bags.items Bags.moved Bags.tokens Bags.freeSlots Bags.freeNodes Tables.read Tables.write Flow.on Flow.done
     Flow.also Flow.finalize Flow.collected Flow.collectSteps Flow.pops Flow.advanced Flow.walk Flow.waiting Flow.placed Flow.defer
     Flow.pushed Rule.asks Rule.follows Rule.agrees Rule.sees Rule.leaves Rule.exchanged Rule.made Rule.isWeak Rule.fails
@@ -43,5 +43,5 @@ unfolding Epoch.starting Epoch.isPinned Epoch.unpinned Epoch.pinned Epoch.succes
     Public.startLent Public.registerLent Public.callLent Public.stepLent Runs.does Runs.run Schedule.tokenIn Schedule.actionOf
     Schedule.whole Schedule.played Schedule.digits Schedule.decimal Schedule.answerText Schedule.freedText Schedule.line Schedule.lines
     Schedule.schedule Worked.noted Worked.begun Worked.stepped Worked.operated Worked.along Worked.shown Worked.fromStart Worked.reply
-    Worked.retires Worked.table
+    Worked.retires Worked.filling Worked.tokensFrom Worked.repeated Worked.table
 worked = refl

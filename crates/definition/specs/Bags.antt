@@ -2,7 +2,7 @@
 -- 4v + 3 for the slot v; 0 is the Rust's `Deferred::NO_OP`. What freeing a bag frees, in bag order. Assumes nothing.
 use mathlib.Core.Bool.{Bool, true}
 use mathlib.Core.List.{List, [], _∷_}
-use Prim.Native.Nat.{ℕ, _+_, _*_, _/_, _%_}
+use Prim.Native.Nat.{ℕ, _+_, _-_, _*_, _/_, _%_}
 use lib.Dec.{eqb, ltb}
 use lib.IntN.{pos}
 use lib.Signed.{leZ}
@@ -13,6 +13,11 @@ use Rattle.definition.specs.Types.{Slot, Node, Item, slot, node}
 -- internal.rs, `MAX_OBJECTS`
 unfoldable pub maxObjects : ℕ
 maxObjects = 64
+
+-- document 02, No. 9: the places left in a bag of k items. (In range no bag has more than `MAX_OBJECTS`, so the difference does not stop at 0:
+-- specs/Values says it as a sum)
+unfoldable pub placesLeft : ℕ → ℕ
+placesLeft k = maxObjects - k
 
 -- internal.rs, `SealedBag` with its `Bag`: the epoch word of the seal, how many items it holds, and their words
 pub record SealedBag : Type 0 where

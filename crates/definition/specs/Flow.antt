@@ -4,7 +4,7 @@
 use Prim.Native.Nat.{ℕ, _+_, _-_}
 use lib.Dec.{eqb, ltb}
 use Rattle.definition.specs.Base.{branch}
-use Rattle.definition.specs.Bags.{maxObjects}
+use Rattle.definition.specs.Bags.{maxObjects, placesLeft}
 use Rattle.definition.specs.Types.{Epoch, Slot, Node, Ptr, Pred, Cursor, Item, Owner, Try, Pops, Deferring, Then, WalkAt, PopAt, PushAt}
 use Rattle.definition.specs.Types.{Place, Counts, Participant, Work, End, After}
 
@@ -66,11 +66,11 @@ waiting (Deferring.Token token) = Item.Token token
 waiting (Deferring.Slot t c succ) = Item.Slot (c .curr)
 waiting (Deferring.Node p head next) = Item.Node head
 
--- the item is in the bag, and who deferred it goes on. A token: `defer` is over. A slot: list.rs, `Iter::next` goes on with `succ`, its
--- predecessor as it was. An old head: queue.rs, `pop_if_internal` returns the bag in `next`, internal.rs, `collect` drops it, and one
--- pop fewer is left
+-- the item is in the bag, and who deferred it goes on. A token: `defer` is over, with the places left as its value (document 02, No. 9). A
+-- slot: list.rs, `Iter::next` goes on with `succ`, its predecessor as it was. An old head: queue.rs, `pop_if_internal` returns the bag in
+-- `next`, internal.rs, `collect` drops it, and one pop fewer is left
 unfoldable pub placed : Deferring → Participant → After
-placed (Deferring.Token token) o = also (Work.Put (waiting (Deferring.Token token))) (done 0 o)
+placed (Deferring.Token token) o = also (Work.Put (waiting (Deferring.Token token))) (done (placesLeft (o .held)) o)
 placed (Deferring.Slot t c succ) o = also (Work.Put (waiting (Deferring.Slot t c succ))) (walk t (c .pred) succ o)
 placed (Deferring.Node p head next) o =
     also (Work.PutThenFree (waiting (Deferring.Node p head next)) next) (pops (p .owner) (p .epoch) (p .left - 1) o)

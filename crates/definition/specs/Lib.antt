@@ -16,6 +16,7 @@ pub mod Layout
 pub mod Public
 pub mod Marks
 pub mod Double
+pub mod Values
 pub mod Survey
 pub mod Runs
 pub mod Schedule

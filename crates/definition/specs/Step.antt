@@ -19,7 +19,8 @@ pub record Out : Type 0 where
   pub answer : Answer
   pub freed : List ℕ
 
--- internal.rs, `Bag::try_push`: the item goes to the end of participant p's bag
+-- internal.rs, `Bag::try_push`: the item goes to the end of participant p's bag. Putting it answers with the places left after it, `placesLeft`
+-- (document 02, No. 9): a defer's caller is told by `placed` of Flow, and nobody else asks
 unfoldable pub putItem : ℕ → Item → Tables → Tables
 putItem p item t = withHeld p (put (t .held p) (t .own p .held) (itemWord item)) t
 

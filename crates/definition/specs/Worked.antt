@@ -3,8 +3,8 @@
 -- frees and of register, release, pin also with 32 and 128, the most. Of a run is shown what its last operation did, and where that left
 -- participant 0's word and bag, the global word, and every bag in the queue, with its seal and its items. These are of unmarked steps. Then, from
 -- document 01's table of refusals, 11: given where more is set aside than is free, not given where just as much is. Last, from document 02,
--- No. 2: marked steps; and No. 6: a token that the bag holds already. proofs/Worked shows by computation that the definition gives it all. Assumes
--- nothing.
+-- No. 2: marked steps; No. 6: a token that the bag holds already; and No. 9: the places left, with which a defer is done. proofs/Worked shows by
+-- computation that the definition gives it all. Assumes nothing.
 use mathlib.Core.Bool.{true, false}
 use mathlib.Core.List.{List, [], _∷_, _++_, map}
 use Prim.Native.Nat.{ℕ, zero, suc, _+_}
@@ -156,6 +156,10 @@ done = Answer.Done 0 0
 abbrev pub more : Answer
 more = Answer.More 0
 
+-- a defer is done, and so many places are left (document 02, No. 9)
+abbrev pub left : ℕ → Answer
+left k = Answer.Done k 0
+
 -- a step of participant 0, and a marked one
 abbrev pub step : Event
 step = Event.steps 0 false
@@ -196,6 +200,27 @@ retires (suc k) x = defer x ∷ retires k (x + 1)
 -- registered and pinned, with a full bag: the tokens 0 to 63
 abbrev pub full : List Event
 full = Event.registers ∷ pin ∷ retires 64 0
+
+-- the answers to k defers that fill a bag: one place fewer is left each time, at last 0
+unfoldable pub filling : ℕ → List Answer
+filling zero = []
+filling (suc k) = left k ∷ filling k
+
+-- the items of k defers, the tokens from x on
+unfoldable pub tokensFrom : (k x : ℕ) → List Item
+tokensFrom zero x = []
+tokensFrom (suc k) x = Item.Token x ∷ tokensFrom k (x + 1)
+
+-- lines of the schedule program: `more`; `done` with the digits of its value; a line k times
+abbrev pub moreLine : List ℕ
+moreLine = 109 ∷ 111 ∷ 114 ∷ 101 ∷ 10 ∷ []
+
+abbrev pub doneLine : (digits : List ℕ) → List ℕ
+doneLine digits = 100 ∷ 111 ∷ 110 ∷ 101 ∷ 32 ∷ digits ++ 10 ∷ []
+
+unfoldable pub repeated : ℕ → List ℕ → List ℕ
+repeated zero line = []
+repeated (suc k) line = line ++ repeated k line
 
 -- registered and pinned, both of two; 0 retires 7, and again; 1 retires 7; 0 flushes, and retires 7, and again
 abbrev pub doubled : List Event
@@ -250,8 +275,8 @@ table = map ofDistance distances ++
     }
     -- No. 6: 7 again, which the bag holds: 16, and nothing changes; once it is queued it is taken; the node 0 in the bag is no token 0
     ∷ plays (Event.registers ∷ pin ∷ defer 7 ∷ defer 7 ∷ []) 0 (Answer.Refused 16) [] 1 2 (Item.Token 7 ∷ []) []
-    ∷ plays (flushed ++ defer 7 ∷ []) 0 done [] 1 2 (Item.Token 7 ∷ []) seven
-    ∷ plays (freeing ++ defer 0 ∷ []) 0 done [] 5 6 (Item.Node (node 0) ∷ Item.Token 0 ∷ []) []
+    ∷ plays (flushed ++ defer 7 ∷ []) 0 (left 63) [] 1 2 (Item.Token 7 ∷ []) seven
+    ∷ plays (freeing ++ defer 0 ∷ []) 0 (left 62) [] 5 6 (Item.Node (node 0) ∷ Item.Token 0 ∷ []) []
     -- a full bag, and no node but what is set aside: 16 for the first token in it and for the last, 11 for another
     ∷ record { asks = Question.answer 1 2 full 1 (defer 0); gives = Reply.isAnswer (Answer.Refused 16) }
     ∷ record { asks = Question.answer 1 2 full 1 (defer 63); gives = Reply.isAnswer (Answer.Refused 16) }
@@ -260,6 +285,19 @@ table = map ofDistance distances ++
     ∷ record {
       asks = Question.answers 2 4 doubled;
       gives = Reply.areAnswers (replicate 3 more ++ done ∷ replicate 3 more ++ Answer.Done 1 0 ∷ replicate 11 more ++ done ∷ replicate 10 more ++ done
-          ∷ done ∷ Answer.Refused 16 ∷ done ∷ replicate 13 more ++ done ∷ done ∷ Answer.Refused 16 ∷ []);
+          ∷ left 63 ∷ Answer.Refused 16 ∷ left 63 ∷ replicate 13 more ++ done ∷ left 63 ∷ Answer.Refused 16 ∷ []);
+    }
+    -- No. 9: 64 defers, done with 63 places left, 62 and so on to 0; the 65th takes 5 steps, and is done with 63: it is alone in a new bag
+    ∷ record {
+      asks = Question.answers 1 2 (Event.registers ∷ replicate 3 step ++ pin ∷ replicate 9 step ++ retires 65 0 ++ replicate 5 step);
+      gives = Reply.areAnswers (replicate 3 more ++ done ∷ replicate 9 more ++ done ∷ filling 64 ++ replicate 5 more ++ left 63 ∷ []);
+    }
+    ∷ plays (full ++ defer 64 ∷ []) 5 (left 63) [] 1 2 (Item.Token 64 ∷ []) (record { seal = 2; holds = tokensFrom 64 0 } ∷ [])
+    -- an unpin with a token in the bag is done with 0, as the flush above is with a node in it
+    ∷ plays (flushed ++ defer 8 ∷ unpin ∷ []) 1 done [] 0 2 (Item.Token 8 ∷ []) seven
+    -- by the schedule program: register, three steps, pin, nine steps, defer 7: the last line is `done 63`
+    ∷ record {
+      asks = Question.output (1 ∷ replicate 31 0 ++ 4 ∷ replicate 79 0 ++ 7 ∷ replicate 3 0 ++ 7 ∷ replicate 3 0);
+      gives = Reply.isBytes (repeated 3 moreLine ++ doneLine (48 ∷ []) ++ repeated 9 moreLine ++ doneLine (48 ∷ []) ++ doneLine (54 ∷ 51 ∷ []));
     }
     ∷ []

@@ -244,7 +244,8 @@ pub enum Call {
     Flush,
 }
 
-// What a call or a step says back: done with a value, or more, each with the number of tokens freed; or a refusal.
+// What a call or a step says back: done with a value (the slot for register; for a defer the places left in its participant's bag, document 02,
+// No. 9; else 0), or more, each with the number of tokens freed; or a refusal.
 pub enum Answer {
     Done(u64, u64),
     More(u64),

@@ -27,7 +27,7 @@ use epoch::Epoch;
 use links::one_fewer;
 ghost use mathlib.Core.Path.{_≡_};
 ghost use Rattle.definition.specs.Base.{branch};
-ghost use Rattle.definition.specs.Bags.{isExpired};
+ghost use Rattle.definition.specs.Bags.{placesLeft, isExpired};
 ghost use Rattle.definition.specs.declared.Deferring.{Deferring};
 ghost use Rattle.definition.specs.declared.Then.{Then};
 ghost use Rattle.definition.specs.Flow.{counting, holding, sharing, on, done, also, finalize, collected, pops, advanced, walk, waiting, placed, defer, pushed};
@@ -38,6 +38,17 @@ pub struct Bag {}
 impl Bag {
     // Maximum number of objects a bag can contain.
     pub const MAX_OBJECTS: u64 = 64;
+
+    // Returns the places left in a bag of this length (document 02, No. 9): what putting an item answers with, and a `defer` is done with.
+    pub fn places_left(len: u64) -> u64
+        ensures { λ r. ⌜ r ≡ placesLeft len ⌝ }
+    {
+        if len < Bag::MAX_OBJECTS {
+            Bag::MAX_OBJECTS - len
+        } else {
+            0
+        }
+    }
 }
 
 // internal.rs, `SealedBag`: a pair of an epoch and a bag, which stays in its node.
@@ -246,12 +257,13 @@ pub fn waiting(d: Deferring) -> Item
     }
 }
 
-// A token is in the bag: `defer` is over.
+// A token is in the bag: `defer` is over, and says how many places are left.
 fn placed_token(token: u64, o: Participant) -> After
     ensures { λ r. ⌜ r ≡ placed (Deferring.Token token) o ⌝ }
 {
     let item = waiting(Deferring::Token(token));
-    let over = done(0, o);
+    let left = Bag::places_left(o.held);
+    let over = done(left, o);
     also(Work::Put(item), over)
 }
 

@@ -247,7 +247,8 @@ pub fn repin(
     )
 }
 
-// internal.rs, `Local::defer`: retires `token`, which stands for a closure. Refused where the own bag has it already (document 02, No. 6).
+// internal.rs, `Local::defer`: retires `token`, which stands for a closure. Refused where the own bag has it already (document 02, No. 6). Done with
+// the places left in that bag (No. 9): in this call, or in its last step where the bag was full and is pushed first.
 pub fn defer(
     n: usize,
     m: usize,

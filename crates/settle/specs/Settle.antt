@@ -57,8 +57,8 @@ settledLent N p k w l = record {
 -- what the work touches is there
 abbrev pub Settles : (N p k : ℕ) → Work → (globals nodes held queued freed : List ℕ) → Type 0
 Settles N p k Work.Nothing g n h q f = Unit {0}
-Settles N p k (Work.Put i) g n h q f = (p * 64 + k < length h) × (itemWord i < 2 ^ 64)
-Settles N p k (Work.PutThenFree i x) g n h q f = ((p * 64 + k < length h) × (itemWord i < 2 ^ 64))
+Settles N p k (Work.Put i) g n h q f = (k < 64) × ((p * 64 + k < length h) × (itemWord i < 2 ^ 64))
+Settles N p k (Work.PutThenFree i x) g n h q f = ((k < 64) × ((p * 64 + k < length h) × (itemWord i < 2 ^ 64)))
     × (((x .0 * 3 + 3 ≤ length n) × (x .0 * 64 + bagLen n (x .0) ≤ length q))
     × ((bagLen n (x .0) ≤ length f) × (haveBits N (length g) (bagLen n (x .0)) (wordsAt q (x .0 * 64)) ≡ true)))
 Settles N p k (Work.Seal x e) g n h q f = ((p * 64 + k ≤ length h) × ((x .0 * 3 + 3 ≤ length n) × (x .0 * 64 + k ≤ length q)))

@@ -29,6 +29,7 @@ pub fn settle(
     match work {
         Work::Nothing => 0,
         Work::Put(item) => {
+            // What it answers, the places left, a defer has from its record (flow, `placed_token`); others do not ask.
             put_item(held, p, k, item);
             0
         }

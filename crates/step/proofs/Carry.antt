@@ -74,12 +74,12 @@ work-settles : (N M p k : ℕ) (l : Lent) (f : List ℕ) → N ≤ 4096 → M �
     → Settles N p k w (l .globals) (l .nodes) (l .held) (l .queued) f
 unfolding WorkIn Fits globalWords
 work-settles N M p k l f n m s hp places Work.Nothing i fit = tt
-work-settles N M p k l f n m s hp places (Work.Put item) i fit = (rw (s .held) (omega arith), item-fits N M n m item i)
+work-settles N M p k l f n m s hp places (Work.Put item) i fit = (fit, (rw (s .held) (omega arith), item-fits N M n m item i))
 work-settles N M p k l f n m s hp places (Work.PutThenFree item x) i fit =
     let room : k < 64 = fit .0 in
     let few = bag-small N M (l .nodes) (l .queued) (x .0) (fit .1 .1) in
     let inside : x .0 < M = fit .1 .0 in (
-      (rw (s .held) (omega arith), item-fits N M n m item (i .0)),
+      (room, (rw (s .held) (omega arith), item-fits N M n m item (i .0))),
       ((rw (s .nodes) (omega arith), rw (s .queued) (omega (arith, few))), (omega (arith, few), bag-has-bits N M (l .nodes) (l .queued) (x .0) (fit .1 .1) (length (l .globals)) (rw (s .globals) (omega arith)))),
     )
 work-settles N M p k l f n m s hp places (Work.Seal x e) i fit =

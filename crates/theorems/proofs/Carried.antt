@@ -83,7 +83,7 @@ module _ (P Q R : ℕ → Type 0) where
 
   placed-carries : (d : Deferring) (o : Participant) → Carried P Q R (Place.Push (Then.Defer d) PushAt.Epoch) → CarriedAfter (placed d o)
   unfolding placed Of walkEpoch popEpoch
-  placed-carries (Deferring.Token token) o h = also-carries _ _ (done-carries 0 o)
+  placed-carries (Deferring.Token token) o h = also-carries _ _ (done-carries _ o)
   placed-carries (Deferring.Slot t c succ) o h = also-carries _ _ (walk-carries t (c .pred) succ o (h .walks))
   placed-carries (Deferring.Node p head next) o h = also-carries _ _ (pops-carries (p .owner) (p .epoch) (p .left - 1) o (h .pops))
 

@@ -90,7 +90,7 @@ onTables = record {
 computed : onTables ≡ expected
 unfolding onTables told Epoch.starting Epoch.isPinned Epoch.unpinned Epoch.pinned Epoch.successor Epoch.gap Epoch.signed Epoch.halved Epoch.wrappingSub
     Base.branch Base.put Base.sum Base.count Base.all Base.least Base.listed Base.among Links.null Links.link Links.isNull Links.index Links.isTagged
-    Links.tagged Links.pointee Links.pointer Links.nodeAt Bags.maxObjects Bags.isExpired Bags.itemWord Bags.itemOf Bags.items Bags.moved
+    Links.tagged Links.pointee Links.pointer Links.nodeAt Bags.maxObjects Bags.placesLeft Bags.isExpired Bags.itemWord Bags.itemOf Bags.items Bags.moved
     Bags.tokens Bags.freeSlots Bags.freeNodes Tables.read Tables.write Flow.on Flow.done Flow.also Flow.finalize Flow.collected Flow.collectSteps
     Flow.pops Flow.advanced Flow.walk Flow.waiting Flow.placed Flow.defer Flow.pushed Rule.asks Rule.follows Rule.agrees Rule.sees Rule.leaves
     Rule.fails List.insert List.delete List.predWord List.iterate Queue.sealBag Queue.push Queue.pop Internal.pinningsBetweenCollect Internal.collects

@@ -321,7 +321,7 @@ module _ (N : ℕ) (m′ : Machine) (g′ : Ghost) (b : ℕ) where
 
   placed-slots : (d : Deferring) (o : Participant) → SlotsThen N g′ b (Then.Defer d) → Slots (placed d o)
   unfolding placed SlotsThen
-  placed-slots (Deferring.Token token) o h = also-slots _ _ (done-slots 0 o)
+  placed-slots (Deferring.Token token) o h = also-slots _ _ (done-slots _ o)
   placed-slots (Deferring.Slot t c succ) o h = also-slots _ _ (walk-slots t (c .pred) succ o (h .0) (h .1))
   placed-slots (Deferring.Node p head next) o h = also-slots _ _ (pops-slots (p .owner) (p .epoch) (p .left - 1) o)
 

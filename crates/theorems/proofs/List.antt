@@ -312,7 +312,7 @@ module _ (w : ℕ) where
 
   placed-aims : (d : Deferring) (o : Participant) → Aims w (placed d o)
   unfolding placed
-  placed-aims (Deferring.Token token) o = also-aims _ _ (done-aims 0 o)
+  placed-aims (Deferring.Token token) o = also-aims _ _ (done-aims _ o)
   placed-aims (Deferring.Slot t c succ) o = also-aims _ _ (walk-aims t (c .pred) succ o)
   placed-aims (Deferring.Node p head next) o = also-aims _ _ (pops-aims (p .owner) (p .epoch) (p .left - 1) o)
 

@@ -107,7 +107,7 @@ module _ (v : Bool) (b : List Item) where
 
   placed-live : (d : Deferring) (o : Participant) → Busy v (o .counts .guards) → LiveAfter v b (placed d o)
   unfolding placed
-  placed-live (Deferring.Token token) o h = also-live _ (done 0 o) (quiet-done 0 o) (done-live v _ 0 o (busy-rests v (o .counts .guards) h))
+  placed-live (Deferring.Token token) o h = also-live _ (done _ o) (quiet-done _ o) (done-live v _ _ o (busy-rests v (o .counts .guards) h))
   placed-live (Deferring.Slot t c succ) o h = also-live _ (walk t (c .pred) succ o) (quiet-walk t (c .pred) succ o) (walk-live v _ t (c .pred) succ o h)
   placed-live (Deferring.Node p head next) o h =
       also-live _ (pops (p .owner) (p .epoch) (p .left - 1) o) (quiet-pops (p .owner) (p .epoch) (p .left - 1) o) (pops-live v _ (p .owner) (p .epoch) (p .left - 1) o h)

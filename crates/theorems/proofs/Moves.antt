@@ -160,7 +160,7 @@ bare-stored d w a e h = rw (← e) (Deferred.stored (h .1))
 
 placed-defers : (d : Deferring) (o : Participant) → Defers d (placed d o)
 unfolding placed workOf waiting
-placed-defers (Deferring.Token token) o = bare-stored (Deferring.Token token) _ _ refl (done-bares 0 o)
+placed-defers (Deferring.Token token) o = bare-stored (Deferring.Token token) _ _ refl (done-bares _ o)
 placed-defers (Deferring.Slot t c succ) o = bare-stored (Deferring.Slot t c succ) _ _ refl (walk-bares t (c .pred) succ o)
 placed-defers (Deferring.Node p head next) o = bare-stored (Deferring.Node p head next) _ _ refl (pops-bares (p .owner) (p .epoch) (p .left - 1) o)
 

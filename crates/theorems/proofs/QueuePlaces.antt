@@ -236,7 +236,7 @@ walk-bare t pred (Ptr.At s) o = on-bare _ o tt
 
 pub placed-bare : (d : Deferring) (o : Participant) → Bare (placed d o)
 unfolding placed also Bare
-placed-bare (Deferring.Token token) o = unfold Bare in (done-bare 0 o)
+placed-bare (Deferring.Token token) o = unfold Bare in (done-bare _ o)
 placed-bare (Deferring.Slot t c succ) o = unfold Bare in (walk-bare t (c .pred) succ o)
 placed-bare (Deferring.Node p head next) o = unfold Bare in (pops-bare (p .owner) (p .epoch) (p .left - 1) o)
 

@@ -54,7 +54,7 @@ walk-repins t pred (Ptr.At s) o = on-repins (Place.Walk t (WalkAt.Next (record {
 
 placed-repins : (d : Deferring) (o : Participant) → RepinAfter (placed d o)
 unfolding placed
-placed-repins (Deferring.Token token) o = also-repins _ _ (done-repins 0 o)
+placed-repins (Deferring.Token token) o = also-repins _ _ (done-repins _ o)
 placed-repins (Deferring.Slot t c succ) o = also-repins _ _ (walk-repins t (c .pred) succ o)
 placed-repins (Deferring.Node p head next) o = also-repins _ _ (pops-repins (p .owner) (p .epoch) (p .left - 1) o)
 

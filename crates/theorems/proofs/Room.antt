@@ -244,7 +244,7 @@ module _ (N w : ℕ) where
   -- the item is in the bag: one more is held, and one fewer is to come
   placed-room : (d : Deferring) (k : ℕ) (o : Participant) → o .held ≡ k + 1 → RoomFor N d k (o .share) w → RoomAfter N w (placed d o)
   unfolding placed RoomFor
-  placed-room (Deferring.Token token) k o e h = also-room _ _ (done-room 0 o)
+  placed-room (Deferring.Token token) k o e h = also-room _ _ (done-room _ o)
   placed-room (Deferring.Slot t c succ) k o e h = also-room _ _ (walk-room t (c .pred) succ o (h .0, let i = h .1 in omega arith))
   placed-room (Deferring.Node p head next) k o e h =
       also-room _ _ (pops-room (p .owner) (p .epoch) (p .left - 1) o (h .1 .0, let i = h .1 .1 in let j = h .0 in omega arith))

@@ -168,7 +168,7 @@ module _ (b : Bool) (s : ℕ) where
   -- the item is in the bag
   placed-tidy : (d : Deferring) (o : Participant) → Neat s o → Tidy b s (placed d o)
   unfolding placed ShareBy
-  placed-tidy (Deferring.Token token) o h = also-tidy _ (done 0 o) (quiet-done 0 o) (λ k. k) (done-tidy b s 0 o h)
+  placed-tidy (Deferring.Token token) o h = also-tidy _ (done _ o) (quiet-done _ o) (λ k. k) (done-tidy b s _ o h)
   placed-tidy (Deferring.Slot t c succ) o h = also-tidy _ (walk t (c .pred) succ o) (quiet-walk t (c .pred) succ o) (λ k. k) (walk-tidy b s t (c .pred) succ o h)
   placed-tidy (Deferring.Node p head next) o h =
       also-tidy _ (pops (p .owner) (p .epoch) (p .left - 1) o) (quiet-pops (p .owner) (p .epoch) (p .left - 1) o) (λ k. k) (pops-tidy b s (p .owner) (p .epoch) (p .left - 1) o h)

@@ -101,7 +101,7 @@ module _ (birth : Tab ℕ) (d b : ℕ) where
   -- an unlinked slot is put into the bag, and the walk goes on behind it
   placed-yet : (x : Deferring) (o : Participant) → Ahead birth d b (Place.Push (Then.Defer x) PushAt.Epoch) → Yet birth d b (placed x o)
   unfolding placed Ahead walkEpoch Of Unseen
-  placed-yet (Deferring.Token token) o h = also-yet _ _ (done-yet 0 o)
+  placed-yet (Deferring.Token token) o h = also-yet _ _ (done-yet _ o)
   placed-yet (Deferring.Slot t c succ) o h = also-yet _ _ (walk-yet t (c .pred) succ o h)
   placed-yet (Deferring.Node p head next) o h = also-yet _ _ (pops-yet (p .owner) (p .epoch) (p .left - 1) o)
 
