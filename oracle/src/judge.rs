@@ -235,7 +235,7 @@ impl Judge {
         Outcome { answer, freed, access, seen: Some(seen) }
     }
 
-    /// A defer is done with the places left in its participant's bag (document 02, No. 9): as long as the crate now has it.
+    /// A defer is done with the places left in its participant's bag (document 02, No. 9), by the length that the crate's own memory now has.
     fn answer(&self, slot: usize, action: u8, ended: bool) -> Answer {
         match (ended, action) {
             (false, _) => Answer::More,
