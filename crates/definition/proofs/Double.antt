@@ -18,7 +18,7 @@ use Rattle.definition.specs.Public.{Outcome, refusal, the, running, twic
 use Rattle.definition.specs.Double.{Holds, deferred, Double}
 use Rattle.definition.specs.Types.{Item, Call, Participant, Answer}
 use Rattle.definition.proofs.Base.{branch-ind}
-use Rattle.definition.proofs.Refusals.{passes, passes-lack, unless-ind, skips, other, none-left, branch-other, follow-answers, refused-is}
+use Rattle.definition.proofs.Refusals.{passes, passes-lack, unless-ind, skips, other, none-left, branch-other, follow-answers, refused-is, given-is}
 use Rattle.definition.proofs.Held.{token-is, is-token, held-some, held-place}
 
 -- ---- on tables
@@ -65,42 +65,34 @@ module _ (N M p token : ℕ) (t : Tables) where
 
 -- ---- on lists
 
-module _ (N M : ℕ) (l : Lent) where
-  -- what goes back into the lists is answered as it was
-  given-is : (a : Answer) (o : Out) → o .answer ≡ a → given N M l [] a o .answer ≡ a
-  unfolding given
-  given-is (Answer.Refused r) o e = refl
-  given-is (Answer.Done v k) o e = e
-  given-is (Answer.More k) o e = e
+module _ (N M : ℕ) (l : Lent) (p token : ℕ) where
+  apart : ((r : ℕ) → deferred N M l p token .answer ≢ Answer.Refused r) → Holds N M l p token → ⊥
+  unfolding callLent call lending given
+  apart taken k =
+      branch-ind (λ (o : Outcome). ((r : ℕ) → o .answer ≢ Answer.Refused r) → ⊥) (withinLimits N M && sized N M l)
+      (λ _. unless-ind (λ (o : Out). ((r : ℕ) → given N M l [] (o .answer) o .answer ≢ Answer.Refused r) → ⊥)
+      (callChecks N M p (Call.Defer token) (tablesOf N M l)) (tablesOf N M l) _
+      (λ e _. true≢false (sym (at-place N M p token (tablesOf N M l) (k .place) (k .below) (k .has)) ∙ passed N M p token (tablesOf N M l) e))
+      (λ _ h. h _ refl))
+      (λ _ h. h 2 refl) taken
 
-  module _ (p token : ℕ) where
-    apart : ((r : ℕ) → deferred N M l p token .answer ≢ Answer.Refused r) → Holds N M l p token → ⊥
-    unfolding callLent call lending given
-    apart taken k =
-        branch-ind (λ (o : Outcome). ((r : ℕ) → o .answer ≢ Answer.Refused r) → ⊥) (withinLimits N M && sized N M l)
-        (λ _. unless-ind (λ (o : Out). ((r : ℕ) → given N M l [] (o .answer) o .answer ≢ Answer.Refused r) → ⊥)
-        (callChecks N M p (Call.Defer token) (tablesOf N M l)) (tablesOf N M l) _
-        (λ e _. true≢false (sym (at-place N M p token (tablesOf N M l) (k .place) (k .below) (k .has)) ∙ passed N M p token (tablesOf N M l) e))
-        (λ _ h. h _ refl))
-        (λ _ h. h 2 refl) taken
+  -- a refusal with 16
+  refused : refusal (callChecks N M p (Call.Defer token) (tablesOf N M l)) ≡ 16 → Holds N M l p token
+  refused e = by (twice p (Call.Defer token) (tablesOf N M l)) refl
+    where
+      by : (b : Bool) → twice p (Call.Defer token) (tablesOf N M l) ≡ b → Holds N M l p token
+      by true h = some-place N M p token (tablesOf N M l) h (λ j lt i. record { place = j; below = lt; has = i })
+      by false h = absurd (never N M p token (tablesOf N M l) h e)
 
-    -- a refusal with 16
-    refused : refusal (callChecks N M p (Call.Defer token) (tablesOf N M l)) ≡ 16 → Holds N M l p token
-    refused e = by (twice p (Call.Defer token) (tablesOf N M l)) refl
-      where
-        by : (b : Bool) → twice p (Call.Defer token) (tablesOf N M l) ≡ b → Holds N M l p token
-        by true h = some-place N M p token (tablesOf N M l) h (λ j lt i. record { place = j; below = lt; has = i })
-        by false h = absurd (never N M p token (tablesOf N M l) h e)
+  shown : deferred N M l p token .answer ≡ Answer.Refused 16 → Holds N M l p token
+  unfolding callLent call lending
+  shown given16 =
+      branch-ind (λ (o : Outcome). o .answer ≡ Answer.Refused 16 → Holds N M l p token) (withinLimits N M && sized N M l)
+      (λ _. unless-ind (λ (o : Out). given N M l [] (o .answer) o .answer ≡ Answer.Refused 16 → Holds N M l p token)
+      (callChecks N M p (Call.Defer token) (tablesOf N M l)) (tablesOf N M l) _
+      (λ _ e. absurd (follow-answers p 16 (opens N (Call.Defer token) (the p (tablesOf N M l))) (tablesOf N M l) (sym (given-is N M l [] _) ∙ e)))
+      (λ _ e. refused (refused-is _ 16 (sym (given-is N M l [] _) ∙ e))))
+      (λ _ e. let z = refused-is 2 16 e in absurd (omega arith)) given16
 
-    shown : deferred N M l p token .answer ≡ Answer.Refused 16 → Holds N M l p token
-    unfolding callLent call lending
-    shown given16 =
-        branch-ind (λ (o : Outcome). o .answer ≡ Answer.Refused 16 → Holds N M l p token) (withinLimits N M && sized N M l)
-        (λ _. unless-ind (λ (o : Out). given N M l [] (o .answer) o .answer ≡ Answer.Refused 16 → Holds N M l p token)
-        (callChecks N M p (Call.Defer token) (tablesOf N M l)) (tablesOf N M l) _
-        (λ _ e. absurd (follow-answers p 16 (opens N (Call.Defer token) (the p (tablesOf N M l))) (tablesOf N M l) (sym (given-is _ _ refl) ∙ e)))
-        (λ _ e. refused (refused-is _ 16 (sym (given-is _ _ refl) ∙ e))))
-        (λ _ e. let z = refused-is 2 16 e in absurd (omega arith)) given16
-
-    pub double : Double N M l p token
-    double = record { apart = apart; shown = shown }
+  pub double : Double N M l p token
+  double = record { apart = apart; shown = shown }

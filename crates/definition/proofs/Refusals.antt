@@ -11,7 +11,8 @@ use Rattle.definition.specs.Base.{branch}
 use Rattle.definition.specs.Links.{isTagged}
 use Rattle.definition.specs.Tables.{Tables}
 use Rattle.definition.specs.Step.{Out, answerOf, follow}
-use Rattle.definition.specs.Public.{Check, check, refusal, refused, unless, running, absent}
+use Rattle.definition.specs.Layout.{Lent}
+use Rattle.definition.specs.Public.{Check, check, refusal, refused, unless, running, absent, given}
 use Rattle.definition.specs.Types.{End, After, Answer}
 use Rattle.definition.proofs.Base.{branch-ind}
 
@@ -77,6 +78,16 @@ refused-is n r e = cc
 -- what is answered where the checks let it through
 pub unless-never : (l : List Check) (t : Tables) (out : Out) (r : ℕ) → refusal l ≢ r → out .answer ≢ Answer.Refused r → unless l t out .answer ≢ Answer.Refused r
 unless-never l t out r ne h = unless-ind (λ (o : Out). o .answer ≢ Answer.Refused r) l t out (λ _. h) (λ _ e. ne (refused-is (refusal l) r e))
+
+-- what goes back into the lists is answered as it was
+pub given-is : (N M : ℕ) (l : Lent) (places : List ℕ) (o : Out) → given N M l places (o .answer) o .answer ≡ o .answer
+unfolding given
+given-is N M l places o = by (o .answer) refl
+  where
+    by : (a : Answer) → o .answer ≡ a → given N M l places a o .answer ≡ a
+    by (Answer.Refused r) e = refl
+    by (Answer.Done v k) e = e
+    by (Answer.More k) e = e
 
 -- ---- negations, and a slot that is there
 

@@ -1,6 +1,6 @@
 -- The value of `done`: by the functions of specs/Flow, then by the places, what follows an access or a call ends with the value that its operation
 -- has, if it ends. Only `placed`, of a token, counts places, and there the bag had room. Leans on Refusals. Assumes nothing.
-use mathlib.Core.Path.{_≡_, refl}
+use mathlib.Core.Path.{_≡_, refl, sym, _∙_}
 use mathlib.Core.Bool.{Bool, _&&_}
 use mathlib.Core.List.{List, []}
 use Prim.Native.Nat.{ℕ, _+_, _-_, _≤_}
@@ -21,12 +21,12 @@ use Rattle.definition.specs.Step.{Out, answerOf, follow, ruleAt, takeSte
 use Rattle.definition.specs.Calls.{begins, opens}
 use Rattle.definition.specs.Ranges.{withinLimits}
 use Rattle.definition.specs.Layout.{Lent, sized, tablesOf}
-use Rattle.definition.specs.Public.{Check, Outcome, unless, the, callChecks, call, stepChecks, step, given, lending, callLent, stepLent}
+use Rattle.definition.specs.Public.{Check, Outcome, unless, the, callChecks, call, stepChecks, step, lending, callLent, stepLent}
 use Rattle.definition.specs.Values.{Operation, HasValue, ofCall, ofThen, ofPlace, Values}
 use Rattle.definition.specs.Types.{Epoch, Node, Ptr, Pred, Cursor, Owner, Try, Pops, Deferring, Then, RegisterAt, RepinAt, WalkAt, PopAt, PushAt}
 use Rattle.definition.specs.Types.{Place, Participant, Seen, Work, End, After, Call, Answer, slot}
 use Rattle.definition.proofs.Base.{branch-ind, put-same}
-use Rattle.definition.proofs.Refusals.{unless-ind}
+use Rattle.definition.proofs.Refusals.{unless-ind, given-is}
 
 module _ (op : Operation) (p : ℕ) where
   -- the value with which it ends, if it does, with k items held
@@ -94,7 +94,11 @@ module _ (p : ℕ) where
       (λ e. placed-right d (holding (o .held + 1) o) (omega (arith, ltb-true (o .held) maxObjects e)))
       (λ _. on-right (ofThen (Then.Defer d)) p _ o)
 
-  -- a slot or an old head, which a collect puts, tells nobody
+  -- of a token; and of a slot or an old head, which a collect puts, and tells nobody
+  token-right : (token : ℕ) (o : Participant) → Right Operation.defer p (defer (Deferring.Token token) o)
+  unfolding ofThen
+  token-right token o = defer-right (Deferring.Token token) o
+
   slot-right : (t : Try) (c : Cursor) (succ : Ptr) (o : Participant) → Right Operation.another p (defer (Deferring.Slot t c succ) o)
   unfolding ofThen
   slot-right t c succ o = defer-right (Deferring.Slot t c succ) o
@@ -109,17 +113,6 @@ module _ (p : ℕ) where
   pushed-right Then.Flush o = on-right Operation.another p _ o
   pushed-right Then.Finalize o = on-right Operation.another p _ _
 
-  -- what a call begins
-  begins-right : (c : Call) (o : Participant) → Right (ofCall c) p (begins c o)
-  unfolding begins ofCall ofThen
-  begins-right Call.Acquire o = over-right _
-  begins-right Call.Release o = pick-right Operation.another p _ _ _ (finalize-right o) (over-right _)
-  begins-right Call.Pin o = pick-right Operation.another p _ _ _ (on-right Operation.another p _ _) (over-right _)
-  begins-right Call.Unpin o = pick-right Operation.another p _ _ _ (on-right Operation.another p _ _) (over-right _)
-  begins-right Call.Repin o = pick-right Operation.another p _ _ _ (on-right Operation.another p _ o) (over-right o)
-  begins-right (Call.Defer token) o = defer-right (Deferring.Token token) o
-  begins-right Call.Flush o = pick-right Operation.another p _ _ _ (on-right Operation.another p _ o) (on-right Operation.another p _ o)
-
   ruleset rights = (
     on-right,
     also-right,
@@ -130,10 +123,22 @@ module _ (p : ℕ) where
     pops-right,
     advanced-right,
     walk-right,
+    token-right,
     slot-right,
     head-right,
     pushed-right,
   )
+
+  -- what a call begins
+  begins-right : (c : Call) (o : Participant) → Right (ofCall c) p (begins c o)
+  unfolding begins ofCall
+  begins-right Call.Acquire o = search rights
+  begins-right Call.Release o = search rights
+  begins-right Call.Pin o = search rights
+  begins-right Call.Unpin o = search rights
+  begins-right Call.Repin o = search rights
+  begins-right (Call.Defer token) o = search rights
+  begins-right Call.Flush o = search rights
 
   -- what follows the access of a place
   follows-right : (spare : Node) (sealed : Node → ℕ) (o : Participant) (pl : Place) (seen : Seen) → Right (ofPlace pl) p (follows (rule (slot p) spare sealed o pl) seen)
@@ -208,17 +213,11 @@ module _ (p : ℕ) where
 
 module _ (N M : ℕ) (l : Lent) (places : List ℕ) where
   -- where the lists' answer is done, so is that of the tables
-  given-done : (a : Answer) (o : Out) (v n : ℕ) → given N M l places a o .answer ≡ Answer.Done v n → o .answer ≡ Answer.Done v n
-  unfolding given
-  given-done (Answer.Refused r) o v n e = let z : _≡_ {A = ℕ} 0 1 = cc in absurd (omega arith)
-  given-done (Answer.Done w k) o v n e = e
-  given-done (Answer.More k) o v n e = e
-
   lending-done : (f : Tables → Out) (v n : ℕ) → lending N M l places f .answer ≡ Answer.Done v n → f (tablesOf N M l) .answer ≡ Answer.Done v n
   unfolding lending
   lending-done f v n h =
       branch-ind (λ (o : Outcome). o .answer ≡ Answer.Done v n → f (tablesOf N M l) .answer ≡ Answer.Done v n) (withinLimits N M && sized N M l)
-      (λ _. given-done _ _ v n)
+      (λ _ e. sym (given-is N M l places _) ∙ e)
       (λ _ e. let z : _≡_ {A = ℕ} 0 1 = cc in absurd (omega arith)) h
 
 pub values : (N M : ℕ) (l : Lent) (p : ℕ) → Values N M l p

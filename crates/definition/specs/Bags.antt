@@ -14,8 +14,8 @@ use Rattle.definition.specs.Types.{Slot, Node, Item, slot, node}
 unfoldable pub maxObjects : ℕ
 maxObjects = 64
 
--- document 02, No. 9: the places left in a bag of k items. (In range no bag has more than `MAX_OBJECTS`, so the difference does not stop at 0:
--- specs/Values says it as a sum)
+-- document 02, No. 9: the places left in a bag of k items. (Asked where an item has just found room, so k is at most `MAX_OBJECTS`, and the
+-- difference does not stop at 0: specs/Values says it as a sum)
 unfoldable pub placesLeft : ℕ → ℕ
 placesLeft k = maxObjects - k
 

@@ -54,7 +54,7 @@ settledLent N p k w l = record {
   queued = settledQueued p k w (l .held) (l .queued);
 }
 
--- what the work touches is there
+-- what the work touches is there, and a bag that an item goes into has room
 abbrev pub Settles : (N p k : ℕ) → Work → (globals nodes held queued freed : List ℕ) → Type 0
 Settles N p k Work.Nothing g n h q f = Unit {0}
 Settles N p k (Work.Put i) g n h q f = (k < 64) × ((p * 64 + k < length h) × (itemWord i < 2 ^ 64))

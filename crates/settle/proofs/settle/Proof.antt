@@ -45,7 +45,10 @@ same-length c = search needs
 
 returns-2 : tie.Need-returns-2
 unfolding settledGlobals settledNodes settledHeld settledQueued settledTokens
-returns-2 c = rw (c .before .before .before .before .before .work .given .1) (record { number = refl; globals = refl; nodes = refl; held = c .before .before .put-item .ensures .1; queued = refl; freed = refl })
+returns-2 c =
+    let put = c .before .before in
+    let known = put .before .before .before in
+    rw (known .work .given .1) (record { number = refl; globals = refl; nodes = refl; held = put .put-item .ensures .1; queued = refl; freed = refl })
 
 same-length-2 : tie.Need-same-length-2
 same-length-2 c = search needs
@@ -65,8 +68,14 @@ same-length-6 c = search needs
 returns-3 : tie.Need-returns-3
 unfolding settledGlobals settledNodes settledHeld settledQueued settledTokens
 returns-3 c =
-    let e = c .before .before .before .before .before .before .free-bag .ensures in
-    rw (c .before .before .before .before .before .before .before .before .before .before .before .before .before .before .before .before .work2 .given .1) (record { number = e .0; globals = e .1 .0; nodes = e .1 .1 .0; held = c .before .before .before .before .before .before .before .before .before .before .before .before .before .put-item2 .ensures .1; queued = refl; freed = e .1 .1 .1 })
+    let lengths = c .before .before .before in
+    let freed = lengths .before .before .before in
+    let lent = freed .before .before .before .before in
+    let put = lent .before .before .before in
+    let known = put .before .before .before in
+    let e = freed .free-bag .ensures in
+    rw (known .work2 .given .1)
+    (record { number = e .0; globals = e .1 .0; nodes = e .1 .1 .0; held = put .put-item2 .ensures .1; queued = refl; freed = e .1 .1 .1 })
 
 same-length-7 : tie.Need-same-length-7
 same-length-7 c = search needs
