@@ -1,3 +1,5 @@
 // No code: that whoever steps alone after a run of the public calls is done stands in specs/ (the statement) and proofs/.
-#[derive(Drop)]
+#![tactic(auto)]
+
+#[derive(Clone, Copy)]
 pub struct Nothing {}

@@ -4,6 +4,8 @@
 // a node, whose row of `nodes` has the node's next, the seal and the length, and whose row of `queued` has the items. In the Rust an item
 // is a closure that is called when the bag is dropped; here it is a word that says what to free: a token, which goes to the caller, or a
 // node or a slot, whose index is free again.
+#![tactic(auto)]
+
 ghost use Rattle.std.specs.Prelude.{◌≡◌, true, [], ◌∷◌, ◌+◌, ◌*◌, ◌^◌, ◌≤◌, ◌<◌, length, set, drop};
 ghost use Rattle.std.proofs.Math.Seq.{paste};
 ghost use Rattle.std.proofs.lemmas.List.Edits.{sets};

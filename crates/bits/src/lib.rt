@@ -3,6 +3,8 @@
 // In the Rust the allocator knows what is free; here a set bit says so. The bits of a table stand in `k` words from index `at` of the
 // list on, so slots and nodes share every function. `bits` of the definition reads them as a table of indices, and each promise is over
 // that table. Taking and giving are total: taking what is taken, and giving what is free, changes nothing.
+#![tactic(auto)]
+
 ghost use Rattle.std.specs.Prelude.{◌≡◌, true, ◌+◌, ◌/◌, ◌^◌, ◌≤◌, ◌<◌, length};
 ghost use Rattle.definition.specs.Base.{count, least};
 ghost use Rattle.definition.specs.Layout.{bits, global_words};

@@ -5,7 +5,7 @@ use mathlib.Core.List.{List, []}
 use Prim.Native.Nat.{ℕ, ◌+◌, ◌-◌, ◌*◌, ◌^◌, ◌≤◌, ◌<◌}
 use native.Mathlib.Omega.{arith}
 use lib.ListN.{length, get_or}
-use borrow.Author.Tests.{not_false}
+use borrow.Author.Tests.{not-false}
 use Rattle.definition.specs.Base.{count}
 use Rattle.definition.specs.Calls.{needs, opens}
 use Rattle.definition.specs.Codec.{participant_of, place_of}
@@ -61,7 +61,7 @@ module _ (N M p : ℕ) (c : Call) (l : Lent) (s : Calls N M p c l) where
   -- at rest nothing is set aside for the participant
   no_share : own.share ≡ 0
   unfolding running participant_of
-  no_share = row_known.rests (not_false (is_rest (place_of (tables.own p).code)) s.rests)
+  no_share = row_known.rests (not-false (is_rest (place_of (tables.own p).code)) s.rests)
 
   -- and what the call needs is free
   total_fits : get_or l.globals 4 0 - own.share + after.participant.share < 2 ^ 64

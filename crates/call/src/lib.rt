@@ -1,5 +1,7 @@
 // A call of a participant on the lent lists, once every check is passed: what it begins, up to its first access. The definition's `opens`,
 // carried out (specs/Public of `definition`, `call`), whose tables the lists hold afterwards: proofs/Laws.
+#![tactic(auto)]
+
 ghost use Rattle.std.specs.Prelude.{[]};
 ghost use Rattle.definition.specs.Layout.{lent, tables_of};
 ghost use Rattle.definition.specs.Calls.{opens};

@@ -6,7 +6,7 @@ use Prim.Native.Nat.{ℕ, ◌+◌, ◌-◌, ◌*◌, ◌≤◌, ◌<◌}
 use native.Mathlib.Omega.{arith}
 use lib.Dec.{eqb, ltb, leb}
 use lib.ListN.{get_or}
-use borrow.Author.Tests.{leb-false, ltb-true, ltb-false, lt-ltb, le-ltb, eqb-true, eqb-false, eq-eqb, ne_eqb, le-leb, lt-leb, not_true, not_false}
+use borrow.Author.Tests.{leb-false, ltb-true, ltb-false, lt-ltb, le-ltb, eqb-true, eqb-false, eq-eqb, ne_eqb, le-leb, lt-leb, not-true, not-false}
 use Rattle.definition.specs.Base.{branch, count, least}
 use Rattle.definition.specs.Bags.{max_objects, items}
 use Rattle.definition.specs.Calls.{lacks, count_full, token_above, held_already, needs}
@@ -217,16 +217,16 @@ below_need free aside need h = by (ltb free (aside + need)) refl
 -- sizes that are not right; right ones, and then the ranges
 pub damage-sizes : (N M : ℕ) (l : Lent) (b : Bool) → b ≡ (within_limits N M && sized N M l) → not b ≡ true → 2 ≡ damage_of N M l
 unfolding damage_of branch
-damage-sizes N M l b e h = rw (sym e ∙ not_true b h)
+damage-sizes N M l b e h = rw (sym e ∙ not-true b h)
 
 pub damage_ranges : (N M : ℕ) (l : Lent) (b w : Bool) (r : ℕ) → b ≡ (within_limits N M && sized N M l) → not b ≡ false
     → w ≡ in_range N M (tables_of N M l) → r ≡ branch w 0 1 → r ≡ damage_of N M l
 unfolding damage_of branch
-damage_ranges N M l b w r e h s t = t ∙ rw (sym e ∙ not_false b h, s)
+damage_ranges N M l b w r e h s t = t ∙ rw (sym e ∙ not-false b h, s)
 
 -- right sizes are right lengths
 pub lengths_right : (N M : ℕ) (l : Lent) (b : Bool) → b ≡ (within_limits N M && sized N M l) → not b ≡ false → sized N M l ≡ true
-lengths_right N M l b e h = (both (within_limits N M) (sized N M l) (sym e ∙ not_false b h)).1
+lengths_right N M l b e h = (both (within_limits N M) (sized N M l) (sym e ∙ not-false b h)).1
 
 module _ (N M : ℕ) (l : Lent) (w : Sound N M l) where
   pub slots_within : within (bit_words N) N (slot_bits N l.globals) ≡ true

@@ -5,6 +5,8 @@
 // counts panic or wrap where they overflow. Here every call may come with anything, so each is checked whole before it changes a word. A check
 // only reads. The numbers are those of `refusal` over the definition's lists of checks (specs/Public); `Fine` says that none holds, and
 // proofs/Laws says what a caller knows then.
+#![tactic(auto)]
+
 ghost use Rattle.std.specs.Prelude.{◌≡◌, true, not, ◌&&◌, ◌||◌, List, [], ◌∷◌, ℕ, ◌+◌, ◌*◌, ◌≤◌, ◌<◌, eqb, ltb, length};
 ghost use Rattle.definition.specs.Base.{branch, count};
 ghost use Rattle.definition.specs.Bags.{items};
@@ -37,7 +39,7 @@ const ASIDE: usize = 4;
 const MAX_OBJECTS: usize = Bag::MAX_OBJECTS as usize;
 
 // What a check says: that the call may go on, or the number of its refusal.
-#[derive(Drop)]
+#[derive(Clone, Copy)]
 pub enum Checked {
     Fine,
     Refused(u64),

@@ -2,6 +2,8 @@
 //
 // `set_guards`, `set_handles` and `set_pins` are `guard_count.set(..)`, `handle_count.set(..)` and `pin_count.set(..)`. Each is lent the
 // record and promises all three fields at exit. `counting` lends them the record of a participant, in its place.
+#![tactic(auto)]
+
 ghost use Rattle.std.specs.Prelude.{◌≡◌};
 ghost use Rattle.definition.specs.Flow.{counting};
 ghost use Rattle.counts.specs.Counts.{with_guards, with_handles, with_pins};

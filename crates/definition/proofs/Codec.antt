@@ -1,14 +1,13 @@
 -- A participant that was written into a record is read back as it was: no place loses anything of what it carries. Assumes nothing.
-use mathlib.Core.Path.{◌≡◌, refl, ap}
-use mathlib.Core.Bool.{Bool, true, false}
-use Prim.Native.Nat.{ℕ, ◌+◌, ◌-◌, ◌*◌, ◌/◌}
+use mathlib.Core.Path.{◌≡◌, refl}
+use mathlib.Core.Bool.{false}
+use Prim.Native.Nat.{ℕ, ◌+◌, ◌*◌, ◌/◌}
 use native.Mathlib.Omega.{arith}
-use lib.Dec.{eqb}
 use borrow.Author.Tests.{ne_eqb}
 use Rattle.definition.specs.Base.{branch}
 use Rattle.definition.specs.Links.{null, link, is_null, index, pointee, pointer}
 use Rattle.definition.specs.Codec.{owner_number, pred_pointer, then_code, pushing, code_of, record_of, owner_of, pred_of, then_of, place_of, participant_of}
-use Rattle.definition.specs.Types.{Ptr, Pred, Owner, Deferring, Then, RegisterAt, RepinAt, WalkAt, PopAt, PushAt, Place, Participant, slot, node}
+use Rattle.definition.specs.Types.{Ptr, Pred, Owner, Deferring, Then, RegisterAt, RepinAt, WalkAt, PopAt, PushAt, Place, Participant}
 
 -- a pointer to an index names it, and is not null
 pub link_not_null : (i : ℕ) → is_null (link i) ≡ false

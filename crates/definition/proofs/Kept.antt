@@ -1,23 +1,23 @@
 -- A step on tables in range leaves its participant in range: its new place carries slots and nodes within the tables, and its share does not
 -- rise. One law for each of the functions of specs/Flow, then one line a place. Assumes nothing.
-use mathlib.Core.Path.{◌≡◌, refl}
-use mathlib.Core.Bool.{Bool, true, false}
-use Prim.Native.Nat.{ℕ, ◌+◌, ◌-◌, ◌/◌, ◌≤◌, ◌<◌}
+use mathlib.Core.Path.{◌≡◌}
+use mathlib.Core.Bool.{Bool, false}
+use Prim.Native.Nat.{ℕ, ◌-◌, ◌/◌, ◌≤◌, ◌<◌}
 use native.Mathlib.Omega.{arith}
 use native.Mathlib.Nat.{le_refl}
-use lib.Dec.{ltb, leb, eqb}
-use borrow.Author.Tests.{eqb-true, eqb-false}
+use lib.Dec.{eqb}
+use borrow.Author.Tests.{eqb-false}
 use Rattle.definition.specs.Base.{branch}
 use Rattle.definition.specs.Links.{is_null, index, pointee, node_at}
-use Rattle.definition.specs.Flow.{collect_steps, on, done, also, finalize, collected, pops, advanced, walk, placed, defer, pushed, holding, counting}
-use Rattle.definition.specs.Rule.{Rule, asks, follows}
+use Rattle.definition.specs.Flow.{collect_steps, on, done, also, finalize, collected, pops, advanced, walk, placed, defer, pushed}
+use Rattle.definition.specs.Rule.{asks, follows}
 use Rattle.definition.specs.List.{insert, delete, iterate, pred_word}
 use Rattle.definition.specs.Queue.{seal_bag, push, pop}
 use Rattle.definition.specs.Internal.{pin_epoch, pin_word, pin_counted, unpin_word, repin, advance_epoch, advance_word, advance_store, final_word, rule}
-use Rattle.definition.specs.Types.{Epoch, Slot, Node, Ptr, Pred, Cursor, Owner, Try, Pops, Deferring, Then, RegisterAt, RepinAt, WalkAt, PopAt, PushAt}
-use Rattle.definition.specs.Types.{Place, Participant, Word, Ask, Seen, Work, After, slot, node}
+use Rattle.definition.specs.Types.{Epoch, Slot, Node, Ptr, Pred, Owner, Try, Deferring, Then, RegisterAt, RepinAt, WalkAt, PopAt, PushAt}
+use Rattle.definition.specs.Types.{Place, Participant, Word, Ask, Seen, Work, After, slot}
 use Rattle.definition.proofs.Base.{branch_ind}
-use Rattle.definition.proofs.Within.{PtrIn, PredIn, CursorIn, PopsIn, ThenIn, RegisterIn, WalkIn, PopIn, PushIn, PlaceIn}
+use Rattle.definition.proofs.Within.{PtrIn, PredIn, ThenIn, RegisterIn, WalkIn, PopIn, PushIn, PlaceIn}
 
 -- the word that an access names
 unfoldable pub ask_word : Ask → Word

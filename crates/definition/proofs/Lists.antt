@@ -2,16 +2,14 @@
 -- gives the tables afterwards gives every word. The free bits stand apart (`bits_word`). Assumes nothing.
 use mathlib.Core.Path.{◌≡◌, refl, ap, sym, ◌∙◌}
 use mathlib.Core.List.{List, [], ◌∷◌, ◌++◌}
-use mathlib.Core.Bool.{Bool, true}
+use mathlib.Core.Bool.{true}
 use Prim.Native.Nat.{ℕ, zero, suc, ◌+◌, ◌*◌, ◌≤◌, ◌<◌}
 use native.Mathlib.Omega.{arith}
-use native.Mathlib.Numerals.{add-one}
 use native.Mathlib.Nat.{suc-mul, zero-mul}
-use lib.Dec.{ltb}
 use lib.ListN.{length, get_or, take, drop, length-drop}
 use lib.Seq.{take-suc, take-add, drop-drop, get_or-drop, take_all}
 use borrow.Author.Tests.{lt-ltb, eqb-true}
-use Rattle.definition.specs.Base.{branch, Tab, listed}
+use Rattle.definition.specs.Base.{Tab, listed}
 use Rattle.definition.specs.Layout.{Lent, cell, rows, sized, tables_of, lent_of, global_words, participant_words, node_words, bits_word, slot_bits, node_bits, shared_from, bag_from, record_words, record_at}
 use Rattle.definition.specs.Bags.{max_objects}
 use Rattle.definition.specs.Ranges.{bit_words}

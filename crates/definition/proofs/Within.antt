@@ -1,24 +1,22 @@
 -- What it is for a place to be in range, as facts and no longer as tests; and what follows: a place in range asks for words
 -- within the tables, and the work after it names slots and nodes within them. So a step on tables in range stays inside them.
 -- Assumes nothing.
-use mathlib.Core.Path.{◌≡◌, refl}
-use mathlib.Core.Bool.{Bool, true, false, ◌&&◌}
-use Prim.Native.Nat.{ℕ, ◌+◌, ◌≤◌, ◌<◌}
-use native.Mathlib.Omega.{arith}
-use lib.Dec.{ltb, leb}
-use borrow.Author.Tests.{ltb-true, leb-true, lt-ltb, le-leb}
+use mathlib.Core.Path.{◌≡◌}
+use mathlib.Core.Bool.{Bool, true, ◌&&◌}
+use Prim.Native.Nat.{ℕ, ◌≤◌, ◌<◌}
+use lib.Dec.{leb}
+use borrow.Author.Tests.{ltb-true, leb-true}
 use Rattle.definition.specs.Base.{branch}
-use Rattle.definition.specs.Bags.{max_objects}
 use Rattle.definition.specs.Calls.{max_token}
 use Rattle.definition.specs.Flow.{collect_steps, on, done, also, finalize, collected, pops, advanced, walk, waiting, placed, defer, pushed}
-use Rattle.definition.specs.Rule.{Rule, asks, follows}
+use Rattle.definition.specs.Rule.{asks, follows}
 use Rattle.definition.specs.List.{insert, delete, iterate, pred_word}
 use Rattle.definition.specs.Queue.{seal_bag, push, pop}
 use Rattle.definition.specs.Internal.{pin_epoch, pin_word, pin_counted, unpin_word, repin, advance_epoch, advance_word, advance_store, final_word, rule}
 use Rattle.definition.specs.Ranges.{place_in, slot_in, node_in, ptr_in, pred_in, cursor_in, pops_in, then_in, register_in, walk_in, pop_in, push_in}
 use Rattle.definition.specs.Types.{Epoch, Slot, Node, Ptr, Pred, Cursor, Item, Owner, Try, Pops, Deferring, Then, RegisterAt, RepinAt, WalkAt, PopAt, PushAt}
-use Rattle.definition.specs.Types.{Place, Participant, Word, Ask, Seen, Work, After, slot, node}
-use Rattle.definition.proofs.Base.{both, and_intro, branch_ind}
+use Rattle.definition.specs.Types.{Place, Participant, Word, Ask, Seen, Work, After, slot}
+use Rattle.definition.proofs.Base.{both, branch_ind}
 
 module _ (N M : ℕ) where
   unfoldable pub PtrIn : Ptr → Type 0

@@ -1,6 +1,6 @@
 -- The definition gives what document 01 worked by hand, and the rows from document 02: one statement over the whole table, by computation. Assumes nothing.
 use mathlib.Core.Path.{◌≡◌, refl}
-use mathlib.Core.List.{List, map}
+use mathlib.Core.List.{map}
 use Rattle.epoch.specs.Epoch
 use Rattle.epoch.specs.Distances
 use Rattle.definition.specs.Base

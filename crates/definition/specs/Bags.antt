@@ -4,7 +4,7 @@ use Rattle.std.specs.Prelude.{Bool, true, List, [], ◌∷◌, ℕ, ◌+◌, ◌
 use Rattle.std.specs.Int.Signed.{le_z}
 use Rattle.epoch.specs.Epoch.{wrapping_sub}
 use Rattle.definition.specs.Base.{branch, Tab, put, listed}
-use Rattle.definition.specs.Types.{Slot, Node, Item, slot, node}
+use Rattle.definition.specs.Types.{Item, slot, node}
 
 -- internal.rs, `MAX_OBJECTS`
 unfoldable pub max_objects : ℕ

@@ -1,7 +1,7 @@
 -- internal.rs, the functions of `Local` that a participant calls: what each asks first, the nodes it needs, and what it begins, up to the
 -- first access. An operation without an access is done at once. Counts and needs are document 01's, what a bag holds already document 02's (No. 6).
 -- Assumes nothing.
-use Rattle.std.specs.Prelude.{Bool, true, false, ◌&&◌, List, ℕ, ◌+◌, ◌-◌, ◌/◌, eqb, ltb, leb}
+use Rattle.std.specs.Prelude.{Bool, false, ◌&&◌, List, ℕ, ◌+◌, ◌-◌, ◌/◌, eqb, ltb, leb}
 use Rattle.definition.specs.Base.{branch, among}
 use Rattle.definition.specs.Bags.{max_objects, tokens}
 use Rattle.definition.specs.Flow.{on, done, defer, finalize, collect_steps, counting, sharing}

@@ -4,7 +4,7 @@
 use Rattle.std.specs.Prelude.{Bool, ◌&&◌, ℕ, eqb}
 use Rattle.definition.specs.Base.{branch}
 use Rattle.definition.specs.Links.{null, link, is_null, index, pointee, pointer}
-use Rattle.definition.specs.Types.{Epoch, Slot, Node, Ptr, Pred, Cursor, Owner, Try, Pops, Deferring, Then, RegisterAt, RepinAt, WalkAt, PopAt, PushAt}
+use Rattle.definition.specs.Types.{Pred, Cursor, Owner, Try, Pops, Deferring, Then, RegisterAt, RepinAt, WalkAt, PopAt, PushAt}
 use Rattle.definition.specs.Types.{Place, Participant, Code, Record, slot, node, epoch}
 
 -- all fourteen columns, in their order

@@ -4,8 +4,8 @@
 use Rattle.std.specs.Prelude.{ℕ, ◌+◌, ◌-◌, eqb, ltb}
 use Rattle.definition.specs.Base.{branch}
 use Rattle.definition.specs.Bags.{max_objects, places_left}
-use Rattle.definition.specs.Types.{Epoch, Slot, Node, Ptr, Pred, Cursor, Item, Owner, Try, Pops, Deferring, Then, WalkAt, PopAt, PushAt}
-use Rattle.definition.specs.Types.{Place, Counts, Participant, Work, End, After}
+use Rattle.definition.specs.Types.{Epoch, Ptr, Pred, Item, Owner, Try, Deferring, Then, WalkAt, PopAt, PushAt}
+use Rattle.definition.specs.Types.{Place, Participant, Work, End, After}
 
 -- a participant's record with one field changed
 abbrev pub at : Place → Participant → Participant

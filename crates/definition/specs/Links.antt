@@ -2,7 +2,7 @@
 -- 02 (No. 1) gives the word: null is 0, index i with tag t is 2(i + 1) + t. So a tagged null is 1. Assumes nothing.
 use Rattle.std.specs.Prelude.{Bool, ℕ, ◌+◌, ◌-◌, ◌*◌, ◌/◌, ◌%◌, eqb}
 use Rattle.definition.specs.Base.{branch}
-use Rattle.definition.specs.Types.{Slot, Node, Ptr, Pred, slot, node}
+use Rattle.definition.specs.Types.{Node, Ptr, slot, node}
 
 -- atomic.rs, `Shared::null`
 unfoldable pub null : ℕ

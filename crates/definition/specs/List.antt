@@ -1,11 +1,10 @@
 -- src/sync/list.rs, access by access: `List::insert`, `Entry::delete`, `List::iter` and `Iter::next`. Insertion is at the head; deletion
 -- tags the entry's own next; the iteration unlinks tagged entries and gives up where its predecessor is tagged. Assumes nothing.
-use Rattle.std.specs.Prelude.{ℕ}
 use Rattle.definition.specs.Base.{branch}
 use Rattle.definition.specs.Links.{link, is_tagged, pointee, pointer}
 use Rattle.definition.specs.Rule.{Rule}
 use Rattle.definition.specs.Flow.{on, done, advanced, walk, defer}
-use Rattle.definition.specs.Types.{Slot, Ptr, Pred, Cursor, Try, Deferring, RegisterAt, WalkAt, Place, Participant, Word}
+use Rattle.definition.specs.Types.{Slot, Pred, Try, Deferring, RegisterAt, WalkAt, Place, Participant, Word}
 
 -- `List::insert`, `to` being the list's head and `entry_ptr` the inserter's own entry
 unfoldable pub insert : Slot → Participant → RegisterAt → Rule

@@ -3,16 +3,16 @@
 -- 01's, with 16 as document 02 (No. 6) has it. A refusal leaves everything as it was. Assumes nothing.
 use Rattle.std.specs.Prelude.{Bool, true, false, ◌&&◌, ◌||◌, not, List, [], ◌∷◌, ◌++◌, ℕ, ◌+◌, eqb, ltb, leb, length, drop}
 use Rattle.epoch.specs.Epoch.{starting}
-use Rattle.definition.specs.Base.{branch, Tab, put, count, least}
+use Rattle.definition.specs.Base.{branch, put, count, least}
 use Rattle.definition.specs.Links.{null, is_tagged}
 use Rattle.definition.specs.Bags.{max_objects, items}
 use Rattle.definition.specs.Tables.{Tables, write, with_shared, with_own, with_free}
-use Rattle.definition.specs.Codec.{record_of, participant_of, place_of}
+use Rattle.definition.specs.Codec.{record_of, participant_of}
 use Rattle.definition.specs.Step.{Out, follow, take_marked}
 use Rattle.definition.specs.Calls.{lacks, count_full, token_above, held_already, needs, opens}
 use Rattle.definition.specs.Ranges.{within_limits, is_rest, in_range, fresh}
 use Rattle.definition.specs.Layout.{Lent, lent, sized, tables_of, lent_of}
-use Rattle.definition.specs.Types.{Then, RegisterAt, PushAt, Place, Participant, Word, Call, Answer, slot}
+use Rattle.definition.specs.Types.{RegisterAt, PushAt, Place, Participant, Word, Call, Answer, slot}
 
 -- a refusal: a number, with the case in which it is given
 pub record Check : Type 0 where

@@ -1,6 +1,6 @@
 -- src/sync/queue.rs, access by access: `Queue::push` with `push_internal`, and `pop_if_internal`. A sentinel, a tail that may lag, and
 -- helping. The epoch load of internal.rs, `Global::push_bag`, stands with the push that it begins. Assumes nothing.
-use Rattle.std.specs.Prelude.{Bool, ℕ, ◌-◌, eqb}
+use Rattle.std.specs.Prelude.{ℕ, ◌-◌, eqb}
 use Rattle.definition.specs.Base.{branch}
 use Rattle.definition.specs.Links.{null, link, is_null, node_at}
 use Rattle.definition.specs.Bags.{is_expired}

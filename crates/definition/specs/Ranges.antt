@@ -3,13 +3,13 @@
 use Rattle.std.specs.Prelude.{Bool, true, false, ◌&&◌, ℕ, ◌+◌, ◌*◌, ◌/◌, ◌%◌, eqb, ltb, leb}
 use Rattle.epoch.specs.Epoch.{starting}
 use Rattle.definition.specs.Base.{branch, Tab, all}
-use Rattle.definition.specs.Links.{null, link, is_tagged}
-use Rattle.definition.specs.Bags.{max_objects, SealedBag}
+use Rattle.definition.specs.Links.{null, link}
+use Rattle.definition.specs.Bags.{max_objects}
 use Rattle.definition.specs.Tables.{Shared, Tables}
 use Rattle.definition.specs.Flow.{collect_steps}
 use Rattle.definition.specs.Codec.{code_of, place_of, same_code}
 use Rattle.definition.specs.Calls.{max_count, max_token}
-use Rattle.definition.specs.Types.{Slot, Node, Ptr, Pred, Cursor, Pops, Deferring, Then, RegisterAt, RepinAt, WalkAt, PopAt, PushAt, Place, Code, Record}
+use Rattle.definition.specs.Types.{Slot, Node, Ptr, Pred, Cursor, Pops, Deferring, Then, RegisterAt, WalkAt, PopAt, PushAt, Place, Code, Record}
 
 -- the limits: participants 1 to 32, nodes 2 to 128
 unfoldable pub max_participants : ℕ

@@ -1,7 +1,6 @@
 -- The schedule program: records of 8 bytes in, lines out, from a fresh start with N 32 and M 128. Document 01, "Schedule program".
 -- Bytes are numbers below 256; letters are their ASCII codes. Assumes nothing.
-use Rattle.std.specs.Prelude.{Bool, true, false, ◌&&◌, not, List, [], ◌∷◌, ◌++◌, ℕ, zero, suc, ◌+◌, ◌*◌, ◌/◌, ◌%◌, eqb, ltb, leb, length, get_or, take, drop}
-use Rattle.std.proofs.Math.Option.{Option, none, some}
+use Rattle.std.specs.Prelude.{Bool, true, false, ◌&&◌, List, [], ◌∷◌, ◌++◌, ℕ, zero, suc, ◌+◌, ◌*◌, ◌/◌, ◌%◌, eqb, ltb, leb, length, get_or, take, drop}
 use Rattle.definition.specs.Base.{branch}
 use Rattle.definition.specs.Tables.{Tables}
 use Rattle.definition.specs.Step.{Out}

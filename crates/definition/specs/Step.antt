@@ -1,14 +1,14 @@
 -- A step and a call, once every check is passed: one access and the private work after it, or the private work of the call that begins an
 -- operation. What the work does to the tables. Assumes nothing.
-use Rattle.std.specs.Prelude.{Bool, true, false, List, [], ℕ, ◌+◌, ◌-◌, length}
+use Rattle.std.specs.Prelude.{Bool, false, List, [], ℕ, ◌+◌, ◌-◌, length}
 use Rattle.definition.specs.Base.{branch, put, least}
 use Rattle.definition.specs.Links.{null}
-use Rattle.definition.specs.Bags.{SealedBag, item_word, items, moved, tokens, free_slots, free_nodes}
+use Rattle.definition.specs.Bags.{item_word, items, moved, tokens, free_slots, free_nodes}
 use Rattle.definition.specs.Tables.{Tables, write, with_shared, with_own, with_held, with_bag, with_free, with_aside}
 use Rattle.definition.specs.Codec.{record_of, participant_of}
 use Rattle.definition.specs.Rule.{Rule, asks, follows, sees, leaves, made, fails, missed, failed}
 use Rattle.definition.specs.Internal.{rule}
-use Rattle.definition.specs.Types.{Slot, Node, Item, Participant, Word, Access, Work, End, After, Answer, slot, node}
+use Rattle.definition.specs.Types.{Item, Word, Access, Work, End, After, Answer, slot, node}
 
 -- the tables afterwards, the answer, and the tokens freed, in bag order
 pub record Out : Type 0 where

@@ -1,6 +1,6 @@
 -- The survey: one report for each participant, and nothing else changed. Added by design; the distance is epoch.rs, `wrapping_sub`, of the
 -- global epoch from the participant's word. Assumes nothing.
-use Rattle.std.specs.Prelude.{Bool, true, false, ◌&&◌, List, ℕ, eqb, ℤ, pos, length}
+use Rattle.std.specs.Prelude.{Bool, true, false, ◌&&◌, List, ℕ, eqb, pos, length}
 use Rattle.epoch.specs.Epoch.{wrapping_sub}
 use Rattle.definition.specs.Base.{branch, listed}
 use Rattle.definition.specs.Links.{is_tagged}
@@ -9,7 +9,7 @@ use Rattle.definition.specs.Codec.{place_of}
 use Rattle.definition.specs.Ranges.{within_limits}
 use Rattle.definition.specs.Layout.{Lent, sized, tables_of}
 use Rattle.definition.specs.Public.{damaged}
-use Rattle.definition.specs.Types.{Place, Record, Answer, Report}
+use Rattle.definition.specs.Types.{Place, Answer, Report}
 
 -- whether a place is one of registering
 unfoldable pub is_register : Place → Bool

@@ -3,7 +3,7 @@
 use Rattle.std.specs.Prelude.{Bool, ℕ}
 use Rattle.definition.specs.Base.{Tab, put}
 use Rattle.definition.specs.Bags.{SealedBag}
-use Rattle.definition.specs.Types.{Slot, Node, Word, Record}
+use Rattle.definition.specs.Types.{Word, Record}
 
 -- the atomics of the four files: internal.rs, `Global::epoch`; list.rs, `List::head` and each `Entry::next`; internal.rs, each
 -- `Local::epoch`; queue.rs, `Queue::head`, `Queue::tail` and each `Node::next`

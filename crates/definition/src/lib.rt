@@ -1,38 +1,40 @@
 // The words in which the definition of the stepped reclaimer is written, and in which its code is written too: indices, pointers,
 // places and what each carries, accesses, answers. Types only. What they mean is defined in specs/, from crossbeam-epoch 0.9.21.
+#![tactic(auto)]
+
 use epoch::Epoch;
 
 // A participant's index in its table: the Rust's `*const Local`.
-#[derive(Drop)]
+#[derive(Clone, Copy)]
 pub struct Slot(pub u64);
 
 // A queue node's index in its table: the Rust's `*const Node<SealedBag>`.
-#[derive(Drop)]
+#[derive(Clone, Copy)]
 pub struct Node(pub u64);
 
 // list.rs, `Shared<Entry>` without its tag.
-#[derive(Drop)]
+#[derive(Clone, Copy)]
 pub enum Ptr {
     Null,
     At(Slot),
 }
 
 // list.rs, `Iter::pred`: the link by which the iteration came to its current entry.
-#[derive(Drop)]
+#[derive(Clone, Copy)]
 pub enum Pred {
     Head,
     Entry(Slot),
 }
 
 // list.rs, `Iter`: where an iteration stands.
-#[derive(Drop)]
+#[derive(Clone, Copy)]
 pub struct Cursor {
     pub pred: Pred,
     pub curr: Slot,
 }
 
 // deferred.rs, `Deferred`: what waits in a bag. A token stands for a closure; a node or a slot for the closure of `defer_destroy`.
-#[derive(Drop)]
+#[derive(Clone, Copy)]
 pub enum Item {
     Token(u64),
     Node(Node),
@@ -40,7 +42,7 @@ pub enum Item {
 }
 
 // Whose `Global::collect` runs: internal.rs, `Local::pin`, `Local::flush`, or the `pin` inside `Local::finalize`.
-#[derive(Drop)]
+#[derive(Clone, Copy)]
 pub enum Owner {
     Pin,
     Flush,
@@ -48,14 +50,14 @@ pub enum Owner {
 }
 
 // internal.rs, `Global::try_advance`: whose it is, and the epoch that it loaded.
-#[derive(Drop)]
+#[derive(Clone, Copy)]
 pub struct Try {
     pub owner: Owner,
     pub epoch: Epoch,
 }
 
 // internal.rs, `Global::collect`, its loop: whose it is, the epoch by which bags expire, and the pops left, this one included.
-#[derive(Drop)]
+#[derive(Clone, Copy)]
 pub struct Pops {
     pub owner: Owner,
     pub epoch: Epoch,
@@ -64,7 +66,7 @@ pub struct Pops {
 
 // Whose `Local::defer` runs, with what its caller holds: a token's; the destruction of a slot that an iteration unlinked; that of the
 // old head of a pop, whose popped bag is in the other node. The item that waits is the token, the slot or the old head.
-#[derive(Drop)]
+#[derive(Clone, Copy)]
 pub enum Deferring {
     Token(u64),
     Slot(Try, Cursor, Ptr),
@@ -72,7 +74,7 @@ pub enum Deferring {
 }
 
 // Whose `Global::push_bag` runs.
-#[derive(Drop)]
+#[derive(Clone, Copy)]
 pub enum Then {
     Defer(Deferring),
     Flush,
@@ -80,7 +82,7 @@ pub enum Then {
 }
 
 // list.rs, `List::insert`; carried: `next`.
-#[derive(Drop)]
+#[derive(Clone, Copy)]
 pub enum RegisterAt {
     Head,
     Next(Ptr),
@@ -88,7 +90,7 @@ pub enum RegisterAt {
 }
 
 // internal.rs, `Local::repin`; carried: `epoch`, then `global_epoch`.
-#[derive(Drop)]
+#[derive(Clone, Copy)]
 pub enum RepinAt {
     Word,
     Epoch(Epoch),
@@ -96,7 +98,7 @@ pub enum RepinAt {
 }
 
 // list.rs, `List::iter` and `Iter::next`; carried: the iteration, and `succ`.
-#[derive(Drop)]
+#[derive(Clone, Copy)]
 pub enum WalkAt {
     Head,
     Next(Cursor),
@@ -105,7 +107,7 @@ pub enum WalkAt {
 }
 
 // queue.rs, `Queue::pop_if_internal`; carried: `head`, `next`.
-#[derive(Drop)]
+#[derive(Clone, Copy)]
 pub enum PopAt {
     Head,
     Next(Node),
@@ -115,7 +117,7 @@ pub enum PopAt {
 }
 
 // internal.rs, `Global::push_bag`, then queue.rs, `Queue::push` and `push_internal`; carried: `new`, `onto`, `next`.
-#[derive(Drop)]
+#[derive(Clone, Copy)]
 pub enum PushAt {
     Epoch,
     Tail(Node),
@@ -126,7 +128,7 @@ pub enum PushAt {
 }
 
 // Where a participant stands: the access that its next step makes, with what the Rust holds in locals there.
-#[derive(Drop)]
+#[derive(Clone, Copy)]
 pub enum Place {
     Rest,
     Register(RegisterAt),
@@ -145,7 +147,7 @@ pub enum Place {
 }
 
 // internal.rs, the `Cell`s of `Local`.
-#[derive(Drop)]
+#[derive(Clone, Copy)]
 pub struct Counts {
     pub guards: u64,
     pub handles: u64,
@@ -153,7 +155,7 @@ pub struct Counts {
 }
 
 // What a participant alone reads and writes: its counts, the length of its bag, the nodes set aside for its operation, its place.
-#[derive(Drop)]
+#[derive(Clone, Copy)]
 pub struct Participant {
     pub counts: Counts,
     pub held: u64,
@@ -162,7 +164,7 @@ pub struct Participant {
 }
 
 // A place as it stands in a table: its number, and what it carries, one meaning to a column; zero where it carries nothing.
-#[derive(Drop)]
+#[derive(Clone, Copy)]
 pub struct Code {
     pub number: u64,
     pub then: u64,
@@ -181,7 +183,7 @@ pub struct Code {
 }
 
 // A participant as it stands in its table, beside its two shared words.
-#[derive(Drop)]
+#[derive(Clone, Copy)]
 pub struct Record {
     pub counts: Counts,
     pub held: u64,
@@ -190,7 +192,7 @@ pub struct Record {
 }
 
 // The shared words: all that an access can touch.
-#[derive(Drop)]
+#[derive(Clone, Copy)]
 pub enum Word {
     GlobalEpoch,
     ListHead,
@@ -203,7 +205,7 @@ pub enum Word {
 
 // What a place asks of shared memory: a load; a store of a value; an exchange of an expected value for a new one; the same by
 // `compare_exchange_weak`; a `fetch_or` of the tag.
-#[derive(Drop)]
+#[derive(Clone, Copy)]
 pub enum Ask {
     Load(Word),
     Store(Word, u64),
@@ -213,14 +215,14 @@ pub enum Ask {
 }
 
 // What comes back: the value read (0 for a store), and whether an exchange was done (true for the rest).
-#[derive(Drop)]
+#[derive(Clone, Copy)]
 pub struct Seen {
     pub value: u64,
     pub won: bool,
 }
 
 // The kinds of access, as a step made it.
-#[derive(Drop)]
+#[derive(Clone, Copy)]
 pub enum Kind {
     Load,
     Store,
@@ -230,7 +232,7 @@ pub enum Kind {
 }
 
 // The access of a step: what it was, on which word, what it read and what it stored (0 where it did not).
-#[derive(Drop)]
+#[derive(Clone, Copy)]
 pub struct Access {
     pub kind: Kind,
     pub word: Word,
@@ -239,7 +241,7 @@ pub struct Access {
 }
 
 // Private work after an access, outside the participant's own record.
-#[derive(Drop)]
+#[derive(Clone, Copy)]
 pub enum Work {
     Nothing,
     Put(Item),
@@ -248,14 +250,14 @@ pub enum Work {
 }
 
 // Whether an operation goes on, or ends with a value.
-#[derive(Drop)]
+#[derive(Clone, Copy)]
 pub enum End {
     GoesOn,
     EndsWith(u64),
 }
 
 // What follows an access, or a call: the participant, the work, and whether the operation ends.
-#[derive(Drop)]
+#[derive(Clone, Copy)]
 pub struct After {
     pub participant: Participant,
     pub work: Work,
@@ -263,7 +265,7 @@ pub struct After {
 }
 
 // The calls that name a participant.
-#[derive(Drop)]
+#[derive(Clone, Copy)]
 pub enum Call {
     Acquire,
     Release,
@@ -276,7 +278,7 @@ pub enum Call {
 
 // What a call or a step says back: done with a value (the slot for register; for a defer the places left in its participant's bag, document 02,
 // No. 9; else 0), or more, each with the number of tokens freed; or a refusal.
-#[derive(Drop)]
+#[derive(Clone, Copy)]
 pub enum Answer {
     Done(u64, u64),
     More(u64),
@@ -284,7 +286,7 @@ pub enum Answer {
 }
 
 // One participant in a survey.
-#[derive(Drop)]
+#[derive(Clone, Copy)]
 pub struct Report {
     pub state: u64,
     pub guards: u64,

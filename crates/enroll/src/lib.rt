@@ -4,6 +4,8 @@
 //
 // The Rust makes a `Local` in memory of its own, which no other thread can see before its entry is in the list. So these stores are
 // private, and none is an access. All words of the slot's row are written: nothing of its last owner stays.
+#![tactic(auto)]
+
 ghost use Rattle.std.specs.Prelude.{◌≡◌};
 ghost use Rattle.definition.specs.Public.{new_participant};
 ghost use Rattle.enroll.specs.Enroll.{Free, Enrolls, Enrolled, free_slot};

@@ -6,11 +6,13 @@
 //
 // Each promise cites the definition of specs/Epoch.antt that has the function's name. No function requires anything: every word is
 // an epoch word.
+#![tactic(auto)]
+
 ghost use Rattle.std.specs.Prelude.{◌≡◌};
 ghost use Rattle.epoch.specs.Epoch.{starting, wrapping_sub, signed, is_pinned, pinned, unpinned, successor};
 
 // An epoch that can be marked as pinned or unpinned. A type of its own, so that a word is not taken for an index of a table.
-#[derive(Drop)]
+#[derive(Clone, Copy)]
 pub struct Epoch(pub u64);
 
 impl Epoch {

@@ -3,6 +3,8 @@
 // `list`, `queue` and `internal` say which access each place makes; what they have in common is here, so that it is said once.
 //
 // Each promise cites the definition of the same name. No function requires anything: what a place carries is passed on, not used.
+#![tactic(auto)]
+
 pub mod links; // links.rt: pointers as words
 
 ghost use Rattle.std.specs.Prelude.{◌≡◌};
@@ -20,7 +22,7 @@ use epoch::Epoch;
 use links::one_fewer;
 
 // internal.rs, `Bag`: deferred functions, which wait in the lent tables. What is left of the type is its size.
-#[derive(Drop)]
+#[derive(Clone, Copy)]
 pub struct Bag {}
 
 impl Bag {
@@ -40,7 +42,7 @@ impl Bag {
 }
 
 // internal.rs, `SealedBag`: a pair of an epoch and a bag, which stays in its node.
-#[derive(Drop)]
+#[derive(Clone, Copy)]
 pub struct SealedBag {
     pub epoch: Epoch,
 }
@@ -58,7 +60,7 @@ impl SealedBag {
 }
 
 // internal.rs, `Global`: its epoch, list and queue are shared words.
-#[derive(Drop)]
+#[derive(Clone, Copy)]
 pub struct Global {}
 
 impl Global {
@@ -67,7 +69,7 @@ impl Global {
 }
 
 // internal.rs, `Local`: a participant.
-#[derive(Drop)]
+#[derive(Clone, Copy)]
 pub struct Local {}
 
 impl Local {
@@ -79,7 +81,7 @@ impl Local {
 }
 
 // deferred.rs, `Deferred`: a deferred function, for which a token stands.
-#[derive(Drop)]
+#[derive(Clone, Copy)]
 pub struct Deferred {}
 
 impl Deferred {

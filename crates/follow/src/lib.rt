@@ -1,5 +1,7 @@
 // What follows an access or a call, carried out on the lent lists: the work, the set-aside total, the participant's record. The definition's
 // `follow` (specs/Step), whose tables these lists hold afterwards: proofs/Laws.
+#![tactic(auto)]
+
 ghost use Rattle.std.specs.Prelude.{◌≡◌};
 ghost use Rattle.definition.specs.Step.{answer_of};
 ghost use Rattle.follow.specs.Follow.{SetsAside, aside_globals, Follows, Followed};

@@ -6,6 +6,8 @@
 // by a second implementation (oracle/hurt.py), not by this code. For each moment: how many cases were refused with 1, refused otherwise, done
 // and more, and a checksum over the answers and, where something was done, over every word of the lists afterwards. That a refusal
 // changed no word is looked at here, word by word.
+#![tactic(auto)]
+
 ghost use Rattle.std.specs.Prelude.{◌≡◌, ◌+◌, ◌<◌, ◌≤◌, length};
 ghost use Rattle.hurt.specs.Hurt.{Fits};
 
@@ -24,7 +26,7 @@ const WORDS: usize = 530;
 const EVERY: u64 = 6;
 
 // What came of the cases of a moment; `wrong` counts words that a refusal changed.
-#[derive(Drop)]
+#[derive(Clone, Copy)]
 struct Tally {
     damaged: u64,
     refused: u64,

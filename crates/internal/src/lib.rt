@@ -4,6 +4,8 @@
 // A place is where the code stands before one access: `.._asks` says which access it makes, `.._follows` what the code does once it has
 // seen the answer. Each promise cites the rule of the same name, whatever the rule has besides what the function is given. No `.._follows`
 // requires anything; an `.._asks` requires that the indices of which it makes pointers are such as a pointer can name.
+#![tactic(auto)]
+
 pub mod calls; // calls.rt: what a call begins
 pub mod places; // places.rt: what is asked of a place besides
 
@@ -56,6 +58,7 @@ fn collects(pins: u64) -> bool
 }
 
 // After every `PINNINGS_BETWEEN_COLLECT` try advancing the epoch and collecting some garbage.
+#[tactic(auto, unfolding(definition::specs::Internal::pin_counted))]
 fn pin_counted(owner: Owner, o: Participant) -> After
     ensures { result ≡ pin_counted owner o }
 {

@@ -1,6 +1,8 @@
 // Sizes, tried for real: N and M at and beyond each limit, each of the five lists one word too short and one too long, and lists for freed
 // tokens of 63, 64 and 65 places; for each, a fresh start, a registering, a pin and a step. What must be written is made by a second
 // implementation (oracle/limits.py), not by this code.
+#![tactic(auto)]
+
 ghost use Rattle.std.specs.Prelude.{◌≤◌};
 ghost use Rattle.io.specs.Counts.{IsPrefixLen};
 

@@ -4,6 +4,8 @@
 // Insertion is at the head; deletion tags the entry's own next; the iteration unlinks tagged entries and gives up where its predecessor
 // is tagged. A place is where the code stands before one access: `.._asks` says which access it makes, `.._follows` what the code does
 // once it has seen the answer. Each promise cites the rule of the same name, whatever the rule has besides what the function is given.
+#![tactic(auto)]
+
 ghost use Rattle.std.specs.Prelude.{◌≡◌};
 ghost use Rattle.definition.specs.Rule.{asks, follows};
 ghost use Rattle.definition.specs.List.{insert, delete, pred_word, iterate};

@@ -1,4 +1,6 @@
 // An action of the schedule program, played on lent lists: the public call that it names.
+#![tactic(auto)]
+
 ghost use Rattle.std.specs.Prelude.{◌≡◌, min};
 ghost use Rattle.definition.specs.Layout.{lent};
 ghost use Rattle.definition.specs.Public.{outcome};

@@ -4,6 +4,8 @@
 // A place is where the code stands before one access: `.._asks` says which access it makes, `.._follows` what the code does once it has
 // seen the answer. Each promise cites the rule of the same name, whatever the rule has besides what the function is given. The epoch
 // load of internal.rs, `Global::push_bag`, stands with the push that it begins.
+#![tactic(auto)]
+
 ghost use Rattle.std.specs.Prelude.{◌≡◌, ℕ};
 ghost use Rattle.definition.specs.Rule.{asks, follows};
 ghost use Rattle.definition.specs.Queue.{seal_bag, push, pop};

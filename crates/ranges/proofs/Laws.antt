@@ -8,7 +8,7 @@ use native.Mathlib.Nat.{add-zero}
 use native.Mathlib.Numerals.{add-one}
 use lib.Dec.{leb}
 use lib.ListN.{get_or}
-use borrow.Author.Tests.{leb-true, le-leb, lt-leb, not_true, not_false}
+use borrow.Author.Tests.{leb-true, le-leb, lt-leb, not-true, not-false}
 use Rattle.definition.specs.Base.{Tab, all}
 use Rattle.definition.specs.Bags.{max_objects}
 use Rattle.definition.specs.Ranges.{within_limits, max_participants, max_nodes, bit_words, item_in, bag_in, record_in, bits_in, shared_in, in_range}
@@ -24,12 +24,12 @@ use Rattle.ranges.specs.Rows.{items_from, participant_in, node_row_in, globals_i
 
 -- no: so not all are marked
 pub all_stop : (n : ℕ) (f : Tab Bool) (i : ℕ) (b : Bool) → i < n → b ≡ f i → not b ≡ true → false ≡ all n f
-all_stop n f i b l e h = sym (all_not n f i l (sym e ∙ not_true b h))
+all_stop n f i b l e h = sym (all_not n f i l (sym e ∙ not-true b h))
 
 -- yes: one more is marked
 pub all_more : (f : Tab Bool) (i : ℕ) (b : Bool) → all i f ≡ true → b ≡ f i → not b ≡ false → all (i + 1) f ≡ true
 unfolding all
-all_more f i b h e y = rw (add-one i, h) (sym e ∙ not_false b y)
+all_more f i b h e y = rw (add-one i, h) (sym e ∙ not-false b y)
 
 -- the end: all are marked
 pub all_end : (n : ℕ) (f : Tab Bool) (i : ℕ) → i ≤ n → n ≤ i → all i f ≡ true → true ≡ all n f

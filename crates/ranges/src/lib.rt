@@ -7,6 +7,8 @@
 // Each promise cites the definition that has the function's name, in specs/Ranges of `definition`, or a row of it, in specs/Rows. What reads
 // only the number of participants takes only that, and promises its answer for every number of nodes; and the other way round. Tests are
 // joined by `&`, which looks at both sides: none of them can fail.
+#![tactic(auto)]
+
 ghost use Rattle.std.specs.Prelude.{◌≡◌, ◌&&◌, true, ℕ, ◌+◌, ◌*◌, ◌^◌, ◌≤◌, ◌<◌, length};
 ghost use Rattle.definition.specs.Base.{branch, all};
 ghost use Rattle.definition.specs.Bags.{max_objects};

@@ -7,7 +7,7 @@ use Prim.Native.Nat.{ℕ, ◌^◌, ◌≤◌, ◌<◌}
 use native.Mathlib.Omega.{arith}
 use lib.Dec.{eqb}
 use lib.ListN.{length, get_or}
-use borrow.Author.Tests.{not_true, not_false}
+use borrow.Author.Tests.{not-true, not-false}
 use Rattle.definition.specs.Base.{branch, least}
 use Rattle.definition.specs.Bags.{max_objects}
 use Rattle.definition.specs.Calls.{opens}
@@ -108,11 +108,11 @@ module _ (N M : ℕ) (l : Lent) (f : List ℕ) (checks : Tables → List Check) 
 module _ (N M : ℕ) (l : Lent) (b : Bool) (e : b ≡ (within_limits N M && sized N M l)) where
   pub start_refuses : not b ≡ true → record { answer = Answer.Refused 2; lent = l; freed = [] } ≡ start_lent N M l
   unfolding start_lent lending branch
-  start_refuses h = rw (sym e ∙ not_true b h)
+  start_refuses h = rw (sym e ∙ not-true b h)
 
   pub may_start : not b ≡ false → (1 ≤ M) × (sized N M l ≡ true)
   may_start h =
-      let s = both (within_limits N M) (sized N M l) (sym e ∙ not_false b h) in
+      let s = both (within_limits N M) (sized N M l) (sym e ∙ not-false b h) in
       let m = limits-small N M s.0 in
       (omega arith, s.1)
 
@@ -121,7 +121,7 @@ module _ (N M : ℕ) (l : Lent) (b : Bool) (e : b ≡ (within_limits N M && size
       × ((n ≡ (lent_of N M (fresh N M)).nodes) × ((h ≡ (lent_of N M (fresh N M)).held) × (q ≡ (lent_of N M (fresh N M)).queued))))
       → outcome (Answer.Done 0 0) g p n h q [] ≡ start_lent N M l
   unfolding start_lent lending given branch
-  started u g p n h q a = rw (a.0, a.1.0, a.1.1.0, a.1.1.1.0, a.1.1.1.1, sym e ∙ not_false b u)
+  started u g p n h q a = rw (a.0, a.1.0, a.1.1.0, a.1.1.1.0, a.1.1.1.1, sym e ∙ not-false b u)
 
 -- ---- a step
 

@@ -2,6 +2,8 @@
 //
 // A promise is one equation. Its right side is the outcome that the definition gives for every input (specs/Public of `definition`), its left side
 // the answer with every lent list as the call leaves it; so two outcomes that meet it are equal (proofs/One).
+#![tactic(auto)]
+
 ghost use Rattle.std.specs.Prelude.{◌≡◌, []};
 ghost use Rattle.definition.specs.Layout.{lent};
 ghost use Rattle.definition.specs.Public.{outcome, start_lent, register_lent, call_lent, step_lent};

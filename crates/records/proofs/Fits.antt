@@ -1,7 +1,7 @@
 -- Which places can be written as numbers: those whose pointers fit a word. Whatever place is read from words is one, and so is every place
 -- whose indices are in range. Assumes nothing.
 use mathlib.Core.Path.{◌≡◌}
-use mathlib.Core.Bool.{true, false}
+use mathlib.Core.Bool.{true}
 use Prim.Native.Nat.{ℕ, ◌/◌, ◌^◌, ◌≤◌, ◌<◌}
 use native.Mathlib.Omega.{arith}
 use lib.Dec.{eqb}

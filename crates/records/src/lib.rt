@@ -7,6 +7,8 @@
 // Each promise cites the definition of like name: specs/Codec, specs/Links and specs/Layout of `definition`, and specs/Stores. A pointer
 // is written as 2(i + 1), so what writes one asks that this fits a word, `PointersFit`: it does for any place that was read, and for any
 // that is in range (proofs/Fits).
+#![tactic(auto)]
+
 ghost use Rattle.std.specs.Prelude.{◌≡◌, ◌+◌, ◌*◌, ◌^◌, ◌≤◌, ◌<◌, length};
 ghost use Rattle.std.proofs.lemmas.List.Edits.{sets};
 ghost use Rattle.definition.specs.Links.{pointer, pointee};

@@ -5,6 +5,8 @@
 // The words that the Rust has are kept as the numbered cells of that form (oracle/README.md), brought up to date by the changes that a
 // line lists. A row of cells and a row of a lent list have the same order, so one function compares them all. At the end it says how many
 // schedules, records and words it compared, and how many differ.
+#![tactic(auto)]
+
 ghost use Rattle.std.specs.Prelude.{◌≡◌, ◌+◌, ◌*◌, ◌<◌, ◌≤◌, min, length};
 ghost use Rattle.io.specs.Counts.{IsPrefixLen};
 ghost use Rattle.replay.specs.Replay.{Fits, Tables};
@@ -25,7 +27,7 @@ const FRESH: u64 = 2;
 const ODD: u64 = 3;
 
 // Where the reading of a line stands: what it is, the numbers that are read, and the one that is being read.
-#[derive(Drop)]
+#[derive(Clone, Copy)]
 struct Reader {
     kind: u64,
     fields: usize,
@@ -261,7 +263,7 @@ fn change_all(cells: &mut [u64], line: &[u64], from: usize, k: usize) {
 // ---- comparing
 
 // What was compared: the words, those that differ, and the cell of one that does.
-#[derive(Drop)]
+#[derive(Clone, Copy)]
 struct Seen {
     words: u64,
     differ: u64,
@@ -414,7 +416,7 @@ fn are_freed(answer: Answer, freed: &[u64], line: &[u64], k: usize) -> bool
 
 // Where the comparing stands: the sizes of the schedule, what was counted, and the line and the cell of the first difference. (A cell is
 // below 20,496; 20,496 stands for an answer, 20,497 for freed tokens.)
-#[derive(Drop)]
+#[derive(Clone, Copy)]
 struct Course {
     n: usize,
     m: usize,
@@ -429,7 +431,7 @@ struct Course {
 }
 
 // What is read and what was counted.
-#[derive(Drop)]
+#[derive(Clone, Copy)]
 struct State {
     reader: Reader,
     course: Course,

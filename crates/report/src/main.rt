@@ -1,6 +1,8 @@
 // Prints a survey: it reads records from standard input to its end, plays each from a fresh start with 32 participants and 128 nodes, as the
 // schedule program does but without its lines, and then surveys. One line for each slot that is not free: its number, state, guards, handles,
 // items held and distance, in decimal. `./play` makes the table of its `survey` lines from them.
+#![tactic(auto)]
+
 ghost use Rattle.std.specs.Prelude.{◌≡◌, replicate, unsigned_abs};
 ghost use Rattle.definition.specs.Layout.{lent};
 ghost use Rattle.definition.specs.Survey.{survey_lent};
@@ -16,7 +18,7 @@ const N: usize = 32;
 const M: usize = 128;
 
 // A survey: its answer and its reports.
-#[derive(Drop)]
+#[derive(Clone, Copy)]
 struct Surveyed {
     answer: Answer,
     reports: [Report; 32],

@@ -4,6 +4,8 @@
 // What a record asks for and what a line says is decided in `script`, and what an action does in `player` and `reclaimer`. Here are the tables, and
 // the loops over the blocks that are read and written. A block is a whole number of records and is read full, so only the last record
 // of the input can be short.
+#![tactic(auto)]
+
 ghost use Rattle.std.specs.Prelude.{◌≡◌, ◌+◌, ◌<◌, ◌≤◌, min, length};
 ghost use Rattle.definition.specs.Layout.{lent, tables_of};
 ghost use Rattle.definition.specs.Schedule.{played, line};
@@ -23,7 +25,7 @@ const M: usize = 128;
 const LINE: usize = 1437;
 
 // Where the playing of a block stopped: the bytes of the block that are played, and the bytes of lines that are put.
-#[derive(Drop)]
+#[derive(Clone, Copy)]
 struct Stop {
     played: usize,
     put: usize,

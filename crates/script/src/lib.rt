@@ -4,6 +4,8 @@
 // What can be read and written is outside every promise, so the program above only reads blocks, calls this and writes blocks, and all
 // that decides what a record means and what a line says is here. The promises cite specs/Schedule of `definition`, which gives both as
 // lists of bytes: a record is whole or it is broken, and a text is put where the one before it ends.
+#![tactic(auto)]
+
 ghost use Rattle.std.specs.Prelude.{◌≡◌, ◌&&◌, [], ◌∷◌, ◌+◌, ◌*◌, ◌≤◌, ◌<◌, length, take};
 ghost use Rattle.definition.specs.Base.{branch};
 ghost use Rattle.definition.specs.Schedule.{token_in, whole, decimal, answer_text, freed_text};
@@ -12,7 +14,7 @@ ghost use Rattle.script.specs.Script.{named, action_in, freed_count, Puts, line_
 use definition::{Answer, Call};
 
 // What a record asks for: a step of a participant, marked or not, a registering, a call on a participant, or nothing, where the record is broken.
-#[derive(Drop)]
+#[derive(Clone, Copy)]
 pub enum Action {
     Step(u64, bool),
     Register,

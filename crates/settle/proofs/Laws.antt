@@ -1,30 +1,30 @@
 -- The work on the lent lists is the definition's `settle` on the tables that they hold. Each case: which of the lists change, and what that makes of
 -- the tables, by the laws of `bits` and `bags`. Assumes nothing.
-use mathlib.Core.Path.{◌≡◌, refl, ap, sym, ◌∙◌}
-use mathlib.Core.Bool.{Bool, true, false}
-use mathlib.Core.List.{List, []}
-use Prim.Native.Nat.{ℕ, ◌+◌, ◌*◌, ◌/◌, ◌≤◌, ◌<◌}
+use mathlib.Core.Path.{◌≡◌, refl, sym, ◌∙◌}
+use mathlib.Core.Bool.{true, false}
+use mathlib.Core.List.{List}
+use Prim.Native.Nat.{ℕ, ◌+◌, ◌*◌, ◌≤◌, ◌<◌}
 use native.Mathlib.Omega.{arith}
 use lib.ListN.{length, get_or, set, drop}
 use lib.Seq.{paste}
 use Rattle.definition.specs.Base.{Tab, put}
 use Rattle.definition.specs.Links.{null}
-use Rattle.definition.specs.Bags.{max_objects, SealedBag, item_word, items, moved, tokens, free_slots, free_nodes}
+use Rattle.definition.specs.Bags.{max_objects, item_word, moved}
 use Rattle.definition.specs.Tables.{Shared, Tables, write}
 use Rattle.definition.specs.Tables as T
 use Rattle.definition.specs.Layout.{Lent, cell, global_words, participant_words, node_words, record_at, shared_from, bag_from, slot_bits, node_bits, tables_of}
 use Rattle.definition.specs.Ranges.{bit_words, bag_in}
-use Rattle.definition.specs.Step.{put_item, seal_into, in_bag, free_bag, settle, freed_by}
+use Rattle.definition.specs.Step.{put_item, seal_into, in_bag, free_bag, settle}
 use Rattle.definition.specs.declared.Work.{Work}
 use Rattle.definition.specs.declared.Word.{Word}
 use Rattle.definition.proofs.Lists.{Sized}
-use Rattle.bits.specs.Bits.{taken, marked}
-use Rattle.bits.proofs.Laws.{length-marked, early_mark, slots_mark-node, nodes-mark-node}
+use Rattle.bits.specs.Bits.{taken}
+use Rattle.bits.proofs.Laws.{early_mark, slots_mark-node, nodes-mark-node}
 use Rattle.bags.specs.Bags.{bag_items, stamped, free_items}
 use Rattle.bags.proofs.Cells.{column}
-use Rattle.bags.proofs.Nodes.{held-put, length-stamped, next_sealed, bag_sealed, bag-emptied, next_emptied}
-use Rattle.bags.proofs.Freeing.{items_of, length-free_items, early_freed, bag-items, bag_slots, bag-nodes}
-use Rattle.settle.specs.Settle.{settled_globals, settled_nodes, settled_held, settled_queued, settled_tokens, settled_lent}
+use Rattle.bags.proofs.Nodes.{held-put, next_sealed, bag_sealed, bag-emptied, next_emptied}
+use Rattle.bags.proofs.Freeing.{early_freed, bag_slots, bag-nodes}
+use Rattle.settle.specs.Settle.{settled_globals, settled_nodes, settled_held, settled_queued, settled_lent}
 
 -- what the work names is within the tables: the bag has room for an item, a bag to be freed is in range, a node is one of M
 unfoldable pub Fits : (N M p k : ℕ) → Work → Lent → Type 0

@@ -2,6 +2,8 @@
 // sealed into a node. Four kinds of work and four lists; nothing here knows of places.
 //
 // What each list is afterwards is specs/Settle, and proofs/Laws shows that it is the definition's `settle`.
+#![tactic(auto)]
+
 ghost use Rattle.std.specs.Prelude.{◌≡◌};
 ghost use Rattle.settle.specs.Settle.{Settles, Settled};
 

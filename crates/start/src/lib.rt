@@ -6,6 +6,8 @@
 // pointer, an empty bag and a participant at rest are the number 0.
 //
 // Each promise gives every word of the list.
+#![tactic(auto)]
+
 ghost use Rattle.std.specs.Prelude.{◌≡◌, true, ◌+◌, ◌*◌, ◌^◌, ◌≤◌, ◌<◌, length, replicate};
 ghost use Rattle.definition.specs.Ranges.{bit_words, fresh};
 ghost use Rattle.definition.specs.Layout.{sized, lent_of};
@@ -108,7 +110,7 @@ pub fn start(
 )
     requires le_m { 1 ≤ m }
     requires queued_value { sized n m (record {
-      globals = globals.now;
+      globals = globals.old;
       participants = participants.old;
       nodes = nodes.old;
       held = held.old;

@@ -2,6 +2,8 @@
 // follows it. The definition's `take_marked` (specs/Step of `definition`), whose tables the lists hold afterwards.
 //
 // The code is a chain of calls; that each of them may be made, and that together they are the definition's step, is proofs/Laws.
+#![tactic(auto)]
+
 ghost use Rattle.std.specs.Prelude.{◌≡◌, ◌*◌, length};
 ghost use Rattle.definition.specs.Layout.{lent, tables_of};
 ghost use Rattle.definition.specs.Links.{index};

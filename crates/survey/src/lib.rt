@@ -2,6 +2,8 @@
 //
 // The numbers are decided by `report_of`, from the lists; a report is a struct, so that no count is taken for another. `fill_reports` only stores
 // them, one after another. The public call, which joins the check and the reports, is in `reclaimer`.
+#![tactic(auto)]
+
 ghost use Rattle.std.specs.Prelude.{◌≡◌, ◌++◌, ◌+◌, ◌-◌, ◌*◌, ◌/◌, ◌≤◌, ◌<◌, length, drop};
 ghost use Rattle.definition.specs.Base.{branch};
 ghost use Rattle.definition.specs.Layout.{lent};

@@ -7,7 +7,7 @@ use mathlib.Core.Logic.{◌≢◌}
 use mathlib.Core.Bool.{Bool, true, ◌&&◌}
 use mathlib.Core.List.{List, [], ◌∷◌}
 use mathlib.Core.Option.{Option, none, some}
-use Prim.Native.Nat.{ℕ, zero, suc, ◌+◌, ◌-◌, ◌≤◌, ◌<◌}
+use Prim.Native.Nat.{ℕ, zero, suc, ◌+◌, ◌≤◌, ◌<◌}
 use native.Mathlib.Omega.{arith}
 use lib.Dec.{ltb}
 use borrow.Author.Tests.{eq-eqb, lt-leb}
@@ -30,7 +30,7 @@ use Rattle.theorems.proofs.Moves.{work_of, Deferred, Kind}
 use Rattle.theorems.proofs.Nodes.{kind_of, call_of}
 use Rattle.theorems.proofs.Balance.{freed_items, Fit, step-fits, call-fits, free_quiet}
 use Rattle.theorems.proofs.Uses.{popped_next, unlinked_in, linking, low_head, spare_placed, taken-placed, is_same, is_other, next_head, nodes_hit}
-use Rattle.theorems.proofs.Types.{Epoch, Slot, Node, Ptr, Cursor, Item, Try, Pops, Deferring, Then, WalkAt, PopAt, PushAt, Place, Participant, Work, After, Call}
+use Rattle.theorems.proofs.Types.{Node, Ptr, Cursor, Item, Try, Pops, Deferring, Then, WalkAt, PopAt, PushAt, Place, Participant, Work, After, Call}
 
 -- ---- lists and sums
 

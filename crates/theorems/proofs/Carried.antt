@@ -13,7 +13,7 @@ use Rattle.definition.specs.Internal.{pin_epoch, pin_word, pin_counted, unpin_wo
 use Rattle.definition.proofs.Base.{branch_ind}
 use Rattle.theorems.proofs.Leads.{Leads}
 use Rattle.theorems.proofs.Invariant.{Of, walk_epoch, pop_epoch, store_epoch}
-use Rattle.theorems.proofs.Types.{Epoch, Slot, Node, Ptr, Pred, Owner, Try, Deferring, Then, RegisterAt, RepinAt, WalkAt, PopAt, PushAt, Place, Participant, Work, After}
+use Rattle.theorems.proofs.Types.{Epoch, Node, Ptr, Pred, Owner, Try, Deferring, Then, RegisterAt, RepinAt, WalkAt, PopAt, PushAt, Place, Participant, Work, After}
 
 -- where the epochs come from, for a property P of a walk's, Q of a pop's and R of a stored one
 pub record Sources (P Q R : ℕ → Type 0) (pl : Place) (s : Shared) : Type 0 where

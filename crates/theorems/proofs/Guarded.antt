@@ -5,7 +5,7 @@ use mathlib.Core.Bool.{Bool, true, false, true≢false}
 use mathlib.Core.List.{List}
 use Prim.Native.Nat.{ℕ, ◌^◌, ◌≤◌, ◌<◌}
 use lib.Dec.{leb}
-use borrow.Author.Tests.{not_false}
+use borrow.Author.Tests.{not-false}
 use Rattle.epoch.specs.Epoch.{is_pinned}
 use Rattle.definition.specs.Links.{is_tagged}
 use Rattle.definition.specs.Tables.{Tables}
@@ -38,4 +38,4 @@ guarded N M h_n h_m l short d hd here untagged rest =
     let t : Tables = after N M l (fresh N M) in
     let s = (sound-run N M h_n h_m l short).0 in
     by_use (s.ghost.slot_use d) (is_tagged (t.shared.entry_next d)) (is_pinned (t.shared.word d)) (the d t) ((view t).held d)
-    (s.inv.records.fine d hd) (sym (s.inv.records.bits d hd) ∙ here) untagged (is_rest_lem (the d t).place (not_false (is_rest (the d t).place) rest))
+    (s.inv.records.fine d hd) (sym (s.inv.records.bits d hd) ∙ here) untagged (is_rest_lem (the d t).place (not-false (is_rest (the d t).place) rest))

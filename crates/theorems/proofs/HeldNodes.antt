@@ -15,7 +15,7 @@ use Rattle.definition.specs.Base.{branch, Tab, put, least}
 use Rattle.definition.specs.Links.{link, is_null, index, node_at, pointer}
 use Rattle.definition.specs.Bags.{is_expired}
 use Rattle.definition.specs.Tables.{Shared, read, write}
-use Rattle.definition.specs.Flow.{on, also, placed, defer, pushed}
+use Rattle.definition.specs.Flow.{on, also, defer, pushed}
 use Rattle.definition.specs.Rule.{asks, follows, sees, leaves}
 use Rattle.definition.specs.List.{pred_word}
 use Rattle.definition.specs.Queue.{seal_bag, push, pop}
@@ -34,7 +34,7 @@ use Rattle.theorems.proofs.Linked.{under-pin, followed_own, step-change, stepped
 use Rattle.theorems.proofs.Queue.{Lined, spare≢placed, link-index, goes_to}
 use Rattle.theorems.proofs.Nodes.{Onward, lined, next_inside, head_in, tail_in, onward-step, step_wrote, onward-call, onward-register}
 use Rattle.theorems.proofs.QueuePlaces.{NodesThen, NodesAt, then_of_lem, in_queue?, by_queue, BareThen, BareAt, bare-nodes, out_bare, queue-under-pin, Bare, collected-bare, placed-bare, defer-bare, bare-after, bare-begins}
-use Rattle.theorems.proofs.Types.{Epoch, Node, Pred, Pops, Deferring, Then, RepinAt, PopAt, PushAt, Place, Participant, After, Call}
+use Rattle.theorems.proofs.Types.{Node, Pred, Pops, Deferring, Then, RepinAt, PopAt, PushAt, Place, Participant, After, Call}
 
 -- ---- what is held stays held
 

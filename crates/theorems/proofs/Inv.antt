@@ -4,9 +4,9 @@ use mathlib.Core.Path.{◌≡◌, refl}
 use mathlib.Core.Logic.{◌≢◌}
 use mathlib.Core.Bool.{Bool, true, false}
 use mathlib.Core.List.{[]}
-use Prim.Native.Nat.{ℕ, ◌+◌, ◌-◌, ◌/◌, ◌%◌, ◌^◌, ◌≤◌, ◌<◌}
+use Prim.Native.Nat.{ℕ, ◌+◌, ◌/◌, ◌%◌, ◌^◌, ◌≤◌, ◌<◌}
 use Rattle.epoch.specs.Epoch.{starting}
-use Rattle.definition.specs.Base.{put, count, least, listed}
+use Rattle.definition.specs.Base.{put, count, least}
 use Rattle.definition.specs.Links.{null}
 use Rattle.definition.specs.Bags.{max_objects}
 use Rattle.definition.specs.Tables.{Shared, Tables, write}

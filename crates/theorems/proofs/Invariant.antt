@@ -18,7 +18,7 @@ use Rattle.definition.specs.Tables.{Shared}
 unfoldable pub use Rattle.theorems.specs.Waiting.{taken_node, popped_node}
 use Rattle.theorems.proofs.Machine.{Machine}
 use Rattle.theorems.proofs.Ghost.{Use, NodeUse, Ghost, num, G, head_of, tail_of, low}
-use Rattle.theorems.proofs.Types.{Epoch, Slot, Node, Ptr, Pred, Item, Owner, Deferring, Then, RegisterAt, RepinAt, WalkAt, PopAt, PushAt, Place, Participant}
+use Rattle.theorems.proofs.Types.{Ptr, Pred, Item, Owner, Deferring, Then, RegisterAt, RepinAt, WalkAt, PopAt, PushAt, Place, Participant}
 
 -- ---- what a place carries, table by table
 

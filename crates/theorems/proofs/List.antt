@@ -33,7 +33,7 @@ use Rattle.theorems.proofs.Inv as I
 use Rattle.theorems.proofs.Safety.{popped_in, in_bag-occurs, use_unfreed}
 use Rattle.theorems.proofs.Order.{Order, out_not_linked, registering_not_linked, to_slot, order-links, order_uses, order_enlist, order_behead, order_unlink}
 use Rattle.theorems.proofs.Linked.{in_range_lem, registers_use, safe_linked, free_unused, followed_next, followed_head, followed_own, stepped_next, stepped_head, stepped_own, step-change, step_worked}
-use Rattle.theorems.proofs.Types.{Epoch, Slot, Node, Ptr, Pred, Cursor, Item, Owner, Try, Deferring, Then, RegisterAt, RepinAt, WalkAt, PopAt, PushAt, Place, Participant, Word, Work, After, Call}
+use Rattle.theorems.proofs.Types.{Epoch, Node, Ptr, Pred, Cursor, Item, Owner, Try, Deferring, Then, RegisterAt, RepinAt, WalkAt, PopAt, PushAt, Place, Participant, Word, Work, After, Call}
 
 -- ---- links as words
 

@@ -4,7 +4,7 @@ use mathlib.Core.Path.{◌≡◌, refl, sym, ◌∙◌}
 use mathlib.Core.Logic.{◌≢◌}
 use mathlib.Core.Bool.{Bool, true, false}
 use mathlib.Core.List.{List, [], ◌∷◌, ◌++◌}
-use Prim.Native.Nat.{ℕ, ◌+◌, ◌-◌, ◌≤◌}
+use Prim.Native.Nat.{ℕ, ◌-◌, ◌≤◌}
 use native.Mathlib.Omega.{arith}
 use lib.Dec.{eqb, ltb, leb}
 use lib.ListN.{length}
@@ -22,7 +22,7 @@ use Rattle.definition.specs.Internal.{pin_epoch, pin_word, pin_counted, unpin_wo
 use Rattle.definition.proofs.Base.{branch_ind, put_same}
 use Rattle.theorems.proofs.Leads.{Leads}
 use Rattle.theorems.proofs.Invariant.{FullFor, Busy, Live, RepinPins}
-use Rattle.theorems.proofs.Types.{Epoch, Slot, Node, Ptr, Pred, Owner, Try, Deferring, Then, RepinAt, WalkAt, PopAt, PushAt, Place, Participant, Item, Work, After}
+use Rattle.theorems.proofs.Types.{Epoch, Node, Ptr, Pred, Owner, Try, Deferring, Then, RepinAt, WalkAt, PopAt, PushAt, Place, Participant, Item, Work, After}
 
 -- the bag after the work
 unfoldable pub bag_after : Work → List Item → List Item

@@ -19,7 +19,7 @@ use Rattle.definition.specs.Step.{put_item, seal_into, in_bag, free_bag, settle,
 use Rattle.definition.specs.Public.{the}
 use Rattle.definition.proofs.Base.{same?, put_ind, put_same, put_other, branch-true}
 use Rattle.definition.proofs.Codec.{participant_back}
-use Rattle.theorems.proofs.Types.{Slot, Node, Item, Participant, Word, Work, After}
+use Rattle.theorems.proofs.Types.{Item, Participant, Word, Work, After}
 
 -- a sealed bag: its seal, and what it holds
 pub record Sealed : Type 0 where

@@ -3,7 +3,7 @@
 -- own next holds, which asks nothing before that store. So the invariant holds, with the ghost as it was, and nothing of its groups is argued again.
 -- Leans on Inv. Assumes nothing.
 use mathlib.Core.Path.{◌≡◌, refl, ap, sym, ◌∙◌}
-use mathlib.Core.Bool.{Bool, true, false, false≢true}
+use mathlib.Core.Bool.{Bool, true, false≢true}
 use mathlib.Core.List.{List}
 use lib.ListN.{length}
 use Prim.Native.Nat.{ℕ, ◌+◌, ◌≤◌, ◌<◌}

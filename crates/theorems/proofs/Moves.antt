@@ -22,7 +22,7 @@ use Rattle.definition.proofs.Base.{branch_ind}
 use Rattle.theorems.proofs.Leads.{Leads, leads}
 use Rattle.theorems.proofs.Ghost.{Turn, turn_of}
 use Rattle.theorems.proofs.Invariant.{waiting_item, taken_node, old_head, popped_node}
-use Rattle.theorems.proofs.Types.{Epoch, Slot, Node, Ptr, Pred, Cursor, Item, Owner, Try, Pops, Deferring, Then, RegisterAt, RepinAt, WalkAt, PopAt, PushAt, Place, Participant, Word, Work, After, Call}
+use Rattle.theorems.proofs.Types.{Epoch, Node, Ptr, Pred, Cursor, Item, Owner, Try, Pops, Deferring, Then, RegisterAt, RepinAt, WalkAt, PopAt, PushAt, Place, Participant, Work, After, Call}
 
 -- what a step retires: the slot that it unlinked; the old head of its pop, once the tail is known to be elsewhere or was moved
 unfoldable pub gained : Place → (won : Bool) → (tail : ℕ) → Option Item
@@ -172,6 +172,25 @@ defers : (d : Deferring) (o : Participant) → Defers d (defer d o)
 unfolding defer
 defers d o = branch_ind (Defers d) _ (λ _. placed-defers d _) (λ _. waits-defers d o)
 
+-- two places of one push: what waits behind it, and the node that was popped before it, are the same
+waits_push : (f : Then) (at at' : PushAt) → waiting_item (Place.Push f at') ≡ waiting_item (Place.Push f at)
+unfolding waiting_item
+waits_push (Then.Defer d) at at' = refl
+waits_push Then.Flush at at' = refl
+waits_push Then.Finalize at at' = refl
+
+popped_push : (f : Then) (at at' : PushAt) → popped_node (Place.Push f at') ≡ popped_node (Place.Push f at)
+unfolding popped_node
+popped_push (Then.Defer (Deferring.Token token)) at at' = refl
+popped_push (Then.Defer (Deferring.Slot t c succ)) at at' = refl
+popped_push (Then.Defer (Deferring.Node p head next)) at at' = refl
+popped_push Then.Flush at at' = refl
+popped_push Then.Finalize at at' = refl
+
+same_push : (f : Then) (at at' : PushAt) → taken_node (Place.Push f at') ≡ taken_node (Place.Push f at) → Same (Place.Push f at) (Place.Push f at')
+unfolding old_head
+same_push f at at' h = record { waits = waits_push f at at'; taken = h; old = refl; popped = popped_push f at at' }
+
 -- ---- the kind of each place's step, and of each call
 
 module _ (p : ℕ) (spare : Node) (s : Shared) where
@@ -189,6 +208,10 @@ module _ (p : ℕ) (spare : Node) (s : Shared) where
   goes_same : (pl pl' : Place) (s' : Shared) (o : Participant) → s'.queue_head ≡ s.queue_head → Same pl pl' → Does pl Turn.quiet none s' (on pl' o)
   unfolding Does on
   goes_same pl pl' s' o h k = Kind.idle h k
+
+  goes_push : (f : Then) (at at' : PushAt) (s' : Shared) (o : Participant) → s'.queue_head ≡ s.queue_head → taken_node (Place.Push f at') ≡ taken_node (Place.Push f at)
+      → Does (Place.Push f at) Turn.quiet none s' (on (Place.Push f at') o)
+  goes_push f at at' s' o h k = goes_same _ _ s' o h (same_push f at at' k)
 
   -- the exchange of an insertion, done
   goes_enlists : (next : Ptr) (s' : Shared) (a : After) → s'.queue_head ≡ s.queue_head → Bares a → Does (Place.Register (RegisterAt.Link next)) (Turn.enlists p) none s' a
@@ -237,7 +260,7 @@ module _ (p : ℕ) (spare : Node) (s : Shared) where
   goes-pick : (pl : Place) (b : Bool) (x y : After) → Does pl Turn.quiet none s x → Does pl Turn.quiet none s y → Does pl Turn.quiet none s (branch b x y)
   goes-pick pl b x y h k = branch_ind (Does pl Turn.quiet none s) b (λ _. h) (λ _. k)
 
-  ruleset kinds = (goes-bare, goes_same, goes_enlists, goes-pushed, goes-pick, bares)
+  ruleset kinds = (goes-bare, goes_same, goes_push, goes_enlists, goes-pushed, goes-pick, bares)
 
   -- the kind of a step, for `leads`
   abbrev Makes : Place → Bool → Shared → After → Type 0

@@ -5,7 +5,7 @@
 use mathlib.Core.Path.{◌≡◌, refl, ap, sym, ◌∙◌}
 use mathlib.Core.Logic.{◌≢◌}
 use mathlib.Core.Bool.{true, false, true≢false}
-use mathlib.Core.Option.{Option, none, some}
+use mathlib.Core.Option.{Option, some}
 use Prim.Native.Nat.{ℕ, zero, suc, ◌≤◌, ◌<◌, min}
 use native.Mathlib.Omega.{arith}
 use Rattle.definition.specs.Base.{Tab, least}
@@ -28,7 +28,7 @@ use Rattle.theorems.proofs.Linked.{step-change}
 use Rattle.theorems.proofs.Moves.{gained, gained_by, work_of, Deferred, Kind, step_kind, call_kind}
 use Rattle.theorems.proofs.Safety.{each_at, popped_in, in_bag-occurs, node_unfreed, node_use_unfreed, past_kept}
 use Rattle.theorems.proofs.Queue.{Lined, spare≢placed, spare≢taken, apart, goes_to, line-pop, line_tail, line-link, use_linked, pos-linked, line-free, line-seal}
-use Rattle.theorems.proofs.Types.{Slot, Node, Pred, Item, Pops, Deferring, Then, PopAt, PushAt, Place, Word, Work, Call}
+use Rattle.theorems.proofs.Types.{Node, Pred, Item, Pops, Deferring, Then, PopAt, PushAt, Place, Word, Work, Call}
 
 -- ---- group Q, over the tables and back
 

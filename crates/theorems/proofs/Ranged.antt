@@ -33,7 +33,7 @@ use Rattle.theorems.proofs.Roomy.{tidy_after, tidy_called}
 use Rattle.theorems.proofs.Invariant.{Each}
 use Rattle.theorems.proofs.Inv.{Inv, Ranged, Steps, Calls, rule_of, won_of, left_of, after_of, goes, stepped, called, registered}
 use Rattle.theorems.proofs.Inv as I
-use Rattle.theorems.proofs.Types.{Epoch, Slot, Node, Ptr, Pred, Cursor, Item, Try, Pops, Then, RegisterAt, RepinAt, WalkAt, PopAt, PushAt}
+use Rattle.theorems.proofs.Types.{Slot, Node, Ptr, Pred, Cursor, Item, Try, Pops, Then, RegisterAt, RepinAt, WalkAt, PopAt, PushAt}
 use Rattle.theorems.proofs.Types.{Place, Participant, Word, Seen, Work, After, Call}
 
 -- ---- shared words

@@ -23,7 +23,7 @@ use Rattle.theorems.proofs.Leads.{Leads}
 use Rattle.theorems.proofs.Ghost.{Use}
 use Rattle.theorems.proofs.Linked.{under_pin}
 use Rattle.theorems.proofs.Invariant.{FullFor, Live, Registers, InList, Fine, reserve_of, cap_of, RoomThen, RoomPush, RoomPin, RoomWalk, Room}
-use Rattle.theorems.proofs.Types.{Epoch, Slot, Node, Ptr, Pred, Item, Owner, Try, Deferring, Then, RegisterAt, RepinAt, WalkAt, PopAt, PushAt}
+use Rattle.theorems.proofs.Types.{Epoch, Node, Ptr, Pred, Item, Owner, Try, Deferring, Then, RegisterAt, RepinAt, WalkAt, PopAt, PushAt}
 use Rattle.theorems.proofs.Types.{Place, Participant, Work, After, Call}
 
 -- ---- room where more slots have left

@@ -7,7 +7,6 @@ use mathlib.Core.Path.{◌≡◌, refl, ap, sym, ◌∙◌}
 use mathlib.Core.Logic.{◌≢◌}
 use mathlib.Core.Bool.{Bool, true, false, true≢false}
 use mathlib.Core.List.{List, [], ◌∷◌}
-use mathlib.Core.Option.{none}
 use Prim.Native.Nat.{ℕ, zero, suc, ◌+◌, ◌-◌, ◌≤◌, ◌<◌}
 use native.Mathlib.Omega.{arith}
 use borrow.Author.Tests.{leb-true, le-leb}
@@ -39,7 +38,7 @@ use Rattle.theorems.proofs.Room.{counts_left, counts_under, room_up, fine_filled
 use Rattle.theorems.proofs.Invariant.{Pinned, Fine, SafeUse, SafeSlot, SafePred, popped_node, left_since, W, Room, RoomPush, Roomy}
 use Rattle.theorems.proofs.Inv.{Inv, Steps, Calls, rule_of, won_of, left_of, after_of, goes, goes_ghost, stepped, stepped_ghost, called, called_ghost, registered, registered_ghost}
 use Rattle.theorems.proofs.Inv as I
-use Rattle.theorems.proofs.Types.{Epoch, Slot, Node, Pred, Item, Then, RegisterAt, RepinAt, WalkAt, PushAt, Place, Participant, After, Call}
+use Rattle.theorems.proofs.Types.{Pred, Item, Then, RegisterAt, RepinAt, WalkAt, PushAt, Place, Participant, After, Call}
 
 -- ---- counting marked indices
 

@@ -17,7 +17,7 @@ use Rattle.theorems.proofs.Ghost.{Use, NodeUse, Ghost, Turn, num, G, use_turned,
 use Rattle.theorems.proofs.Invariant.{Of, pop_epoch, popped_node, Pinned, SafeUse, SafeSlot, SafeNode, HoldsThen, HoldsPop, HoldsAt}
 use Rattle.theorems.proofs.Invariant.{times, same_item, occurs, Retired, Each}
 use Rattle.theorems.proofs.Inv.{Inv}
-use Rattle.theorems.proofs.Types.{Slot, Node, Item, Deferring, Then, PopAt, Place}
+use Rattle.theorems.proofs.Types.{Item, Deferring, Then, PopAt, Place}
 
 -- ---- lists of items
 

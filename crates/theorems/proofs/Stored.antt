@@ -36,7 +36,7 @@ use Rattle.theorems.proofs.Inv.{Inv, Steps, Calls, rule_of, after_of}
 use Rattle.theorems.proofs.Safety.{sum_at}
 use Rattle.theorems.proofs.Roomy.{step-has-node}
 use Rattle.theorems.proofs.Ranged.{work_after}
-use Rattle.theorems.proofs.Types.{Epoch, Slot, Node, Ptr, Pred, Cursor, Item, Pops, Deferring, Then, RegisterAt, WalkAt, PopAt, PushAt}
+use Rattle.theorems.proofs.Types.{Slot, Node, Ptr, Pred, Cursor, Item, Pops, Deferring, Then, RegisterAt, WalkAt, PopAt, PushAt}
 use Rattle.theorems.proofs.Types.{Place, Participant, Code, Record, Work, After, Call}
 
 -- what the tables must say beside the machine that they hold

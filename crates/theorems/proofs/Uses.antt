@@ -10,7 +10,7 @@ use mathlib.Core.Logic.{◌≢◌}
 use mathlib.Core.Bool.{Bool, true, false}
 use mathlib.Core.List.{List, [], ◌∷◌}
 use mathlib.Core.Option.{Option, none, some}
-use Prim.Native.Nat.{ℕ, zero, suc, ◌+◌, ◌-◌, ◌*◌, ◌/◌, ◌%◌, ◌≤◌, ◌<◌}
+use Prim.Native.Nat.{ℕ, zero, suc, ◌+◌, ◌*◌, ◌/◌, ◌%◌, ◌≤◌, ◌<◌}
 use native.Mathlib.Omega.{arith}
 use lib.Dec.{eqb, leb}
 use borrow.Author.Tests.{eqb-true, eqb-false, eq-eqb, ne_eqb, leb-true, leb-false, le-leb, lt-leb}
@@ -32,7 +32,7 @@ use Rattle.theorems.proofs.Linked.{in_range_lem, safe_linked, followed_own}
 use Rattle.theorems.proofs.Moves.{Bare, work_of, Deferred, Left, Kind}
 use Rattle.theorems.proofs.Nodes.{Turned, step_turned, still, kind_of, call_of}
 use Rattle.theorems.proofs.Balance.{freed_items, Fit, step-fits, balance-goes, call-fits, balance-register, unused, free_quiet}
-use Rattle.theorems.proofs.Types.{Slot, Node, Ptr, Pred, Cursor, Item, Try, Pops, Deferring, Then, RegisterAt, WalkAt, PopAt, PushAt, Place, Participant, Work, After, Call}
+use Rattle.theorems.proofs.Types.{Node, Ptr, Pred, Cursor, Item, Try, Pops, Deferring, Then, RegisterAt, WalkAt, PopAt, PushAt, Place, Participant, Work, After, Call}
 
 -- ---- pointers
 

@@ -11,7 +11,7 @@ use mathlib.Core.Option.{Option, none, some}
 use Prim.Native.Nat.{ℕ, ◌+◌, ◌-◌, ◌≤◌, ◌<◌}
 use native.Mathlib.Omega.{arith}
 use lib.Dec.{eqb}
-use borrow.Author.Tests.{eqb-true, not_false}
+use borrow.Author.Tests.{eqb-true, not-false}
 use Rattle.epoch.specs.Epoch.{starting, is_pinned, unpinned}
 use Rattle.epoch.proofs.Laws.{is_pinned-starting, pinned-word, unpinned_even}
 use Rattle.definition.specs.Base.{branch, Tab, least}
@@ -34,7 +34,7 @@ use Rattle.theorems.proofs.Inv as I
 use Rattle.theorems.proofs.Order.{born_linked, registering_not_linked, to_slot}
 use Rattle.theorems.proofs.Linked.{in_range_lem, pinned-linked, registers_use, safe_linked, followed-word, followed_own, stepped-word, stepped_own, step-change}
 use Rattle.theorems.proofs.List.{pointee-link, link_untagged}
-use Rattle.theorems.proofs.Types.{Epoch, Slot, Node, Ptr, Pred, Owner, Try, Deferring, Then, RegisterAt, RepinAt, WalkAt, PopAt, PushAt, Place, Participant, Word, Work, After, Call}
+use Rattle.theorems.proofs.Types.{Epoch, Node, Ptr, Pred, Owner, Try, Deferring, Then, RegisterAt, RepinAt, WalkAt, PopAt, PushAt, Place, Participant, Work, After, Call}
 
 -- ---- a participant d, pinned at b, and the place of a walk
 
@@ -144,7 +144,7 @@ module _ (birth : Tab ℕ) (d b : ℕ) where
 pinned_in : (w e : ℕ) → is_pinned w ≡ true → (is_pinned w && not (eqb (unpinned w) e)) ≡ false → num e ≡ num w
 unfolding num
 pinned_in w e pin h =
-    let same : unpinned w ≡ e = eqb-true (unpinned w) e (not_false (eqb (unpinned w) e) (rw pin at h)) in
+    let same : unpinned w ≡ e = eqb-true (unpinned w) e (not-false (eqb (unpinned w) e) (rw pin at h)) in
     let odd = pinned-word w pin in
     let even = unpinned_even w in
     omega arith

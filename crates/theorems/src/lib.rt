@@ -1,3 +1,5 @@
 // No code: what is proved of every run of the public calls stands in specs/ (the statements) and proofs/.
-#[derive(Drop)]
+#![tactic(auto)]
+
+#[derive(Clone, Copy)]
 pub struct Nothing {}

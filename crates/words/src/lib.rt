@@ -8,6 +8,8 @@
 //
 // Each promise says what the access sees, as specs/Rule of `definition` has it, and all three lists afterwards, as specs/Words has
 // them. What is required is only that the word named lies in the lists.
+#![tactic(auto)]
+
 ghost use Rattle.std.specs.Prelude.{◌≡◌, false};
 ghost use Rattle.definition.specs.Tables.{read};
 ghost use Rattle.definition.specs.Layout.{shared_from};

@@ -1,0 +1,20 @@
+-- What is found of sizes and ranges comes first, and lists that pass have what the rest asks.
+use mathlib.Core.Path.{sym, ◌∙◌}
+use native.Mathlib.Omega.{arith}
+use Rattle.definition.proofs.Lists.{sized_is}
+use Rattle.ranges.proofs.Laws.{limits-small}
+use Rattle.checks.proofs.Laws.{damage_none, slots_within, register_first, register_then}
+use Rattle.checks.proofs.check_register.Goals as goal
+
+pub returns-then-first-ne0 : goal.returns-then-first-ne0
+returns-then-first-ne0 c = register_first _ _ _ _ c.damage-first.ensures c.if-first-ne0.true
+
+pub free_slots-free-requires : goal.free_slots-free-requires
+free_slots-free-requires c =
+    let w = damage_none _ _ _ (sym c.damage-first.ensures ∙ c.if-first-ne0.false) in
+    let t = limits-small _ _ w.limits in
+    let s = sized_is _ _ _ w.lengths in
+    record { n_bound = (omega arith, omega arith); globals_value = slots_within _ _ _ w }
+
+pub returns : goal.returns
+returns c = c.answer.ensures ∙ register_then _ _ _ _ c.damage-first.ensures _ _ c.if-first-ne0.false c.free_slots-free.ensures c.pick.ensures

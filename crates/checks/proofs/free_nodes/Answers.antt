@@ -1,0 +1,13 @@
+-- The count of the bits in the words where they stand.
+use native.Mathlib.Omega.{arith}
+use Rattle.definition.specs.Layout.{node_bits, global_words}
+use Rattle.definition.specs.Ranges.{bit_words}
+use Rattle.checks.proofs.free_nodes.Goals as goal
+
+pub count_free-requires : goal.count_free-requires
+unfolding node_bits global_words bit_words
+count_free-requires c = rw (c.node_bits_at.ensures, c.bit_words.ensures) (record { k_in_bounds = (omega arith, omega arith); at_value = c.requires.globals_value })
+
+pub returns : goal.returns
+unfolding node_bits
+returns c = rw (c.count_free.ensures, c.node_bits_at.ensures, c.bit_words.ensures)

@@ -1,4 +1,0 @@
--- Laws of `counts`.
-pub mod Setter
-pub mod Setting
-pub mod Standing

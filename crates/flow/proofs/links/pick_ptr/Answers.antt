@@ -1,0 +1,11 @@
+-- On each side of the test the choice computes.
+use Rattle.definition.specs.Base.{branch}
+use Rattle.flow.proofs.links.pick_ptr.Goals as goal
+
+pub returns-then-b : goal.returns-then-b
+unfolding branch
+returns-then-b c = rw c.if-b.true
+
+pub returns-else-b : goal.returns-else-b
+unfolding branch
+returns-else-b c = rw c.if-b.false

@@ -1,0 +1,51 @@
+-- Each arm is the event of its number, and a number of no arm is above 9.
+use Rattle.std.proofs.Common.{arith}
+use borrow.Author.Tests.{lt-leb}
+use Rattle.definition.specs.Base.{branch}
+use Rattle.definition.specs.Schedule.{action_of}
+use Rattle.script.specs.Script.{named, action_for}
+use Rattle.script.proofs.name.Goals as goal
+
+pub returns-in-0 : goal.returns-in-0
+unfolding named branch action_for action_of
+returns-in-0 c = rw c.in-0.is
+
+pub returns-in-1 : goal.returns-in-1
+unfolding named branch action_for action_of
+returns-in-1 c = rw c.in-1.is
+
+pub returns-in-2 : goal.returns-in-2
+unfolding named branch action_for action_of
+returns-in-2 c = rw c.in-2.is
+
+pub returns-in-3 : goal.returns-in-3
+unfolding named branch action_for action_of
+returns-in-3 c = rw c.in-3.is
+
+pub returns-in-4 : goal.returns-in-4
+unfolding named branch action_for action_of
+returns-in-4 c = rw c.in-4.is
+
+pub returns-in-5 : goal.returns-in-5
+unfolding named branch action_for action_of
+returns-in-5 c = rw c.in-5.is
+
+pub returns-in-6 : goal.returns-in-6
+unfolding named branch action_for action_of
+returns-in-6 c = rw c.in-6.is
+
+pub returns-in-7 : goal.returns-in-7
+unfolding named branch action_for action_of
+returns-in-7 c = rw c.in-7.is
+
+pub returns-in-8 : goal.returns-in-8
+unfolding named branch action_for action_of
+returns-in-8 c = rw c.in-8.is
+
+pub returns-in-9 : goal.returns-in-9
+unfolding named branch action_for action_of
+returns-in-9 c = rw c.in-9.is
+
+pub returns-in_default : goal.returns-in_default
+unfolding named branch
+returns-in_default c = rw (lt-leb c.args.action 9 (omega arith))
