@@ -1,0 +1,93 @@
+// Reading blocks full and writing numbers, for the programs, at any reader and any writer.
+//
+// What comes from the system and goes to it is outside every promise; where a reader or a writer says which bytes it has, as one over
+// memory does, the promises here say which of them move.
+#![tactic(auto)]
+
+ghost use Rattle.std.specs.Prelude.{◌≡◌, ◌<◌, length, replicate, take, decimal, IfOk, OnOk};
+ghost use Rattle.std.specs.Io.KnownBytes.{Consumes, IsAtEnd, Appends};
+ghost use Rattle.stream.specs.Counts.{IsPrefixLen};
+
+use std::io::{self, Read, Write};
+
+// Returns 65,536 zeros, to read a block into or to put lines into.
+pub fn large_buffer() -> [u8; 65536]
+    ensures { result ≡ replicate 65536 0 }
+{
+    [0u8; 65536]
+}
+
+// Reads until `buf` is full or the input ends, and returns how many bytes it put at the start of `buf`: fewer than `buf` has only where the
+// input ended. Fails where a read does, and what was read before that is lost.
+pub fn read_full<R: Read>(reader: &mut R, buf: &mut [u8]) -> io::Result<usize>
+    ensures in_bounds { IfOk result (λ n. IsPrefixLen n buf.new) }
+    ensures bytes { IfOk result (λ n. Consumes (R.remaining reader.old) (R.remaining reader.new) (take n buf.new)) }
+    ensures end { IfOk result (λ n. n < length buf.new → IsAtEnd (R.remaining reader.new)) }
+{
+    let mut done: usize = 0;
+    while done < buf.len() {
+        let n = reader.read(&mut buf[done..])?;
+        if n == 0 {
+            break;
+        }
+        done += n;
+    }
+    Ok(done)
+}
+
+// Writes a number in decimal, with no line end.
+pub fn write_decimal<W: Write>(writer: &mut W, v: u64) -> io::Result<()>
+    ensures { OnOk result (Appends (W.contents writer.old) (W.contents writer.new) (decimal v)) }
+{
+    write!(writer, "{v}")
+}
+
+#[cfg(test)]
+mod tests {
+    use super::*;
+    use std::io::ErrorKind;
+
+    #[derive(Drop)]
+    struct Broken;
+
+    impl Read for Broken {
+        fn read(&mut self, _buf: &mut [u8]) -> io::Result<usize> {
+            Err(io::Error::from(ErrorKind::Other))
+        }
+    }
+
+    #[test]
+    fn fills_a_block_by_short_reads(rt: HostRuntime) -> io::Result<()> {
+        let mut reader = (&b"abc"[..]).chain(&b"defgh"[..]);
+        let mut buf = [0u8; 6];
+        assert_eq!(rt; read_full(&mut reader, &mut buf)?, 6);
+        assert_eq!(rt; &buf[..], b"abcdef".as_slice());
+        assert_eq!(rt; read_full(&mut reader, &mut buf)?, 2);
+        assert_eq!(rt; &buf[..2], b"gh".as_slice());
+        assert_eq!(rt; read_full(&mut reader, &mut buf)?, 0);
+        Ok(())
+    }
+
+    #[test]
+    fn fails_where_a_read_does(rt: HostRuntime) {
+        let mut reader = (&b"abc"[..]).chain(Broken);
+        let mut buf = [0u8; 6];
+        assert!(rt; read_full(&mut reader, &mut buf).is_err());
+    }
+
+    #[test]
+    fn writes_numbers(rt: HostRuntime) -> io::Result<()> {
+        let mut text = Vec::new(rt.alloc());
+        write_decimal(&mut text, 0)?;
+        write_decimal(&mut text, 1437)?;
+        write_decimal(&mut text, u64::MAX)?;
+        assert_eq!(rt; text.as_slice(), b"0143718446744073709551615".as_slice());
+        Ok(())
+    }
+
+    #[test]
+    fn fails_where_a_write_does(rt: HostRuntime) {
+        let mut room = [0u8; 2];
+        assert!(rt; write_decimal(&mut &mut room[..], 100).is_err());
+    }
+}
