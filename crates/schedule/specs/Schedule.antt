@@ -1,6 +1,6 @@
 -- The lengths of the program's lists, and where the playing of a block stops. Assumes nothing.
 use Rattle.std.specs.Prelude.{◌≡◌, List, ℕ, ◌<◌, ◌≤◌, length}
-use Rattle.io.specs.Counts.{IsPrefixLen}
+use Rattle.stream.specs.Counts.{IsPrefixLen}
 use Rattle.schedule.specs.declared.Stop.{Stop}
 
 -- the lists of 32 participants and 128 nodes, and the list for freed tokens, have their lengths

@@ -13,8 +13,8 @@ ghost use Rattle.script.specs.Script.{action_in, Puts};
 ghost use Rattle.script.specs.Played.{acts};
 ghost use Rattle.schedule.specs.Schedule.{Fits, Stopped};
 
-use libc::{STDIN_FILENO, STDOUT_FILENO};
 use player::act;
+use std::io::{self, Read, Write};
 
 // The sizes of the tables.
 const N: usize = 32;
@@ -106,8 +106,9 @@ fn play_block(
     }
 }
 
-// Plays a whole block and writes its lines. Returns `false` where they cannot be written.
-fn answer_block(
+// Plays a whole block and writes its lines. Fails where they cannot be written.
+fn answer_block<W: Write>(
+    writer: &mut W,
     block: &[u8],
     out: &mut [u8],
     globals: &mut [u64],
@@ -116,7 +117,7 @@ fn answer_block(
     held: &mut [u64],
     queued: &mut [u64],
     freed: &mut [u64],
-) -> bool
+) -> io::Result<()>
     requires in_bounds { 1437 ≤ length out.old }
     requires fits { Fits globals.old participants.old nodes.old held.old queued.old freed.old }
 {
@@ -134,16 +135,16 @@ fn answer_block(
             freed,
         );
         let put = stop.put;
-        if !io::write_all(STDOUT_FILENO, &out[..put]) {
-            return false;
-        }
+        writer.write_all(&out[..put])?;
         at = stop.played;
     }
-    true
+    Ok(())
 }
 
-// Reads a block and answers it. Returns `false` at the end of the input, or where lines cannot be written.
-fn turn(
+// Reads a block and answers it. Returns `false` at the end of the input, and fails where it cannot be read or lines cannot be written.
+fn turn<R: Read, W: Write>(
+    reader: &mut R,
+    writer: &mut W,
     block: &mut [u8],
     out: &mut [u8],
     globals: &mut [u64],
@@ -152,12 +153,13 @@ fn turn(
     held: &mut [u64],
     queued: &mut [u64],
     freed: &mut [u64],
-) -> bool
+) -> io::Result<bool>
     requires in_bounds { 1437 ≤ length out.old }
     requires fits { Fits globals.old participants.old nodes.old held.old queued.old freed.old }
 {
-    let n = io::read_full(STDIN_FILENO, block);
-    if answer_block(
+    let n = stream::read_full(reader, block)?;
+    answer_block(
+        writer,
         &block[..n],
         out,
         globals,
@@ -166,30 +168,31 @@ fn turn(
         held,
         queued,
         freed,
-    ) {
-        n == block.len()
-    } else {
-        false
-    }
+    )?;
+    Ok(n == block.len())
 }
 
 // Answers the whole input. A proved loop has to end, and nothing says that an input does, so it counts its turns down, from a number
 // that no run uses up.
-fn run(
+fn run<R: Read, W: Write>(
+    reader: &mut R,
+    writer: &mut W,
     globals: &mut [u64],
     participants: &mut [u64],
     nodes: &mut [u64],
     held: &mut [u64],
     queued: &mut [u64],
     freed: &mut [u64],
-)
+) -> io::Result<()>
     requires { Fits globals.old participants.old nodes.old held.old queued.old freed.old }
 {
-    let mut block = io::large_buffer();
-    let mut out = io::large_buffer();
+    let mut block = stream::large_buffer();
+    let mut out = stream::large_buffer();
     let mut turns = u64::MAX;
     while turns > 0
         && turn(
+            reader,
+            writer,
             &mut block,
             &mut out,
             globals,
@@ -198,10 +201,11 @@ fn run(
             held,
             queued,
             freed,
-        )
+        )?
     {
         turns -= 1;
     }
+    Ok(())
 }
 
 // The smaller of two numbers.
@@ -211,7 +215,7 @@ fn least(a: usize, b: usize) -> usize
     if a < b { a } else { b }
 }
 
-fn main() {
+fn main(rt: HostRuntime) -> io::Result<()> {
     let mut globals = [0u64; 8];
     let mut participants = start::participant_buffer();
     let mut nodes = start::node_buffer();
@@ -227,12 +231,16 @@ fn main() {
         &mut held,
         &mut queued,
     );
+    let mut reader = rt.stdin();
+    let mut writer = rt.stdout();
     run(
+        &mut reader,
+        &mut writer,
         &mut globals,
         &mut participants,
         &mut nodes,
         &mut held,
         &mut queued,
         &mut freed,
-    );
+    )
 }
