@@ -10,7 +10,7 @@ ghost use Rattle.reclaimer.specs.Outcomes.{surveyed_as};
 ghost use Rattle.survey.specs.Surveys.{blank};
 
 use definition::{Answer, Report};
-use libc::{STDIN_FILENO, STDOUT_FILENO};
+use std::io::{self, Read, Write};
 
 // The sizes of the tables.
 const N: usize = 32;
@@ -59,9 +59,9 @@ fn survey(
 }
 
 // Writes a text and a number.
-fn say(text: &[u8], v: u64) {
-    io::write_all(STDOUT_FILENO, text);
-    io::print_decimal(STDOUT_FILENO, v);
+fn say<W: Write>(writer: &mut W, text: &[u8], v: u64) -> io::Result<()> {
+    writer.write_all(text)?;
+    stream::write_decimal(writer, v)
 }
 
 // Returns the distance without its sign. One is added before the sign is changed, since the lowest number has no counterpart.
@@ -76,45 +76,46 @@ fn magnitude(d: i64) -> u64
 }
 
 // Writes a distance.
-fn say_distance(d: i64) {
+fn say_distance<W: Write>(writer: &mut W, d: i64) -> io::Result<()> {
     if d >= 0 {
-        say(b" ", magnitude(d));
+        say(writer, b" ", magnitude(d))
     } else {
-        say(b" -", magnitude(d));
+        say(writer, b" -", magnitude(d))
     }
 }
 
 // Writes the line of slot `p`, unless it is free.
-fn say_report(p: u64, r: Report) {
+fn say_report<W: Write>(writer: &mut W, p: u64, r: Report) -> io::Result<()> {
     if r.state == 0 {
-        return;
+        return Ok(());
     }
-    say(b"", p);
-    say(b" ", r.state);
-    say(b" ", r.guards);
-    say(b" ", r.handles);
-    say(b" ", r.held);
-    say_distance(r.distance);
-    io::write_all(STDOUT_FILENO, b"\n");
+    say(writer, b"", p)?;
+    say(writer, b" ", r.state)?;
+    say(writer, b" ", r.guards)?;
+    say(writer, b" ", r.handles)?;
+    say(writer, b" ", r.held)?;
+    say_distance(writer, r.distance)?;
+    writer.write_all(b"\n")
 }
 
 // Writes the lines of a survey.
-fn say_survey(s: Surveyed) {
+fn say_survey<W: Write>(writer: &mut W, s: Surveyed) -> io::Result<()> {
     let answer = s.answer;
     if let Answer::Refused(r) = answer {
-        say(b"refused ", r);
-        io::write_all(STDOUT_FILENO, b"\n");
-        return;
+        say(writer, b"refused ", r)?;
+        return writer.write_all(b"\n");
     }
     let mut p: usize = 0;
     while p < N {
-        say_report(p as u64, s.reports[p]);
+        say_report(writer, p as u64, s.reports[p])?;
         p += 1;
     }
+    Ok(())
 }
 
-// Reads a block and plays its records. Returns `false` at the end of the input.
-fn turn(
+// Reads a block and plays its records. Returns `false` at the end of the input, and fails where it cannot be read.
+fn turn<R: Read>(
+    reader: &mut R,
     block: &mut [u8],
     globals: &mut [u64],
     participants: &mut [u64],
@@ -122,8 +123,8 @@ fn turn(
     held: &mut [u64],
     queued: &mut [u64],
     freed: &mut [u64],
-) -> bool {
-    let n = io::read_full(STDIN_FILENO, block);
+) -> io::Result<bool> {
+    let n = stream::read_full(reader, block)?;
     player::act_all(
         N,
         M,
@@ -135,23 +136,25 @@ fn turn(
         freed,
         &block[..n],
     );
-    n == block.len()
+    Ok(n == block.len())
 }
 
 // Plays the whole input. A proved loop has to end, and nothing says that an input does, so it counts its turns down, from a number that no
 // run uses up.
-fn run(
+fn run<R: Read>(
+    reader: &mut R,
     globals: &mut [u64],
     participants: &mut [u64],
     nodes: &mut [u64],
     held: &mut [u64],
     queued: &mut [u64],
     freed: &mut [u64],
-) {
-    let mut block = io::large_buffer();
+) -> io::Result<()> {
+    let mut block = stream::large_buffer();
     let mut turns = u64::MAX;
     while turns > 0
         && turn(
+            reader,
             &mut block,
             globals,
             participants,
@@ -159,13 +162,14 @@ fn run(
             held,
             queued,
             freed,
-        )
+        )?
     {
         turns -= 1;
     }
+    Ok(())
 }
 
-fn main() {
+fn main(rt: HostRuntime) -> io::Result<()> {
     let mut globals = [0u64; 8];
     let mut participants = start::participant_buffer();
     let mut nodes = start::node_buffer();
@@ -181,13 +185,19 @@ fn main() {
         &mut held,
         &mut queued,
     );
+    let mut reader = rt.stdin();
     run(
+        &mut reader,
         &mut globals,
         &mut participants,
         &mut nodes,
         &mut held,
         &mut queued,
         &mut freed,
-    );
-    say_survey(survey(&globals, &participants, &nodes, &held, &queued));
+    )?;
+    let mut writer = rt.stdout();
+    say_survey(
+        &mut writer,
+        survey(&globals, &participants, &nodes, &held, &queued),
+    )
 }
