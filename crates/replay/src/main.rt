@@ -8,12 +8,12 @@
 #![tactic(auto)]
 
 ghost use Rattle.std.specs.Prelude.{◌≡◌, ◌+◌, ◌*◌, ◌<◌, ◌≤◌, min, length};
-ghost use Rattle.io.specs.Counts.{IsPrefixLen};
 ghost use Rattle.replay.specs.Replay.{Fits, Tables};
+ghost use Rattle.stream.specs.Counts.{IsPrefixLen};
 
 use definition::Answer;
-use libc::{STDIN_FILENO, STDOUT_FILENO};
 use script::Action;
+use std::io::{self, Read, Write};
 
 // ---- lines
 
@@ -835,9 +835,10 @@ fn read_block(
     state
 }
 
-// Reads the whole input. A proved loop has to end, and nothing says that an input does, so it counts its turns down, from a number that no
-// run uses up.
-fn read_all(
+// Reads the whole input, and fails where it cannot be read. A proved loop has to end, and nothing says that an input does, so it counts its
+// turns down, from a number that no run uses up.
+fn read_all<R: Read>(
+    input: &mut R,
     block: &mut [u8],
     s: State,
     line: &mut [u64],
@@ -848,7 +849,7 @@ fn read_all(
     held: &mut [u64],
     queued: &mut [u64],
     freed: &mut [u64],
-) -> State
+) -> io::Result<State>
     requires line_len { length line.old ≡ 1024 }
     requires fits { Fits cells.old globals.old participants.old nodes.old held.old queued.old freed.old }
 {
@@ -857,7 +858,7 @@ fn read_all(
     let mut more = true;
     while turns > 0 && more {
         turns -= 1;
-        let n = io::read_full(STDIN_FILENO, block);
+        let n = stream::read_full(input, block)?;
         state = read_block(
             &block[..n],
             state,
@@ -872,31 +873,33 @@ fn read_all(
         );
         more = n == block.len();
     }
-    state
+    Ok(state)
 }
 
 // ---- the report
 
 // Writes a number and what it counts.
-fn say(v: u64, what: &[u8]) {
-    io::print_decimal(STDOUT_FILENO, v);
-    io::write_all(STDOUT_FILENO, what);
+fn say<W: Write>(writer: &mut W, v: u64, what: &[u8]) -> io::Result<()> {
+    stream::write_decimal(writer, v)?;
+    writer.write_all(what)
 }
 
 // Says what was compared, how many differ, and where the first difference is.
-fn report(c: Course) {
-    say(c.schedules, b" schedules\n");
-    say(c.records, b" records\n");
-    say(c.words, b" words\n");
-    say(c.odd, b" lines not understood\n");
-    say(c.differ, b" differences\n");
+fn report<W: Write>(writer: &mut W, c: Course) -> io::Result<()> {
+    say(writer, c.schedules, b" schedules\n")?;
+    say(writer, c.records, b" records\n")?;
+    say(writer, c.words, b" words\n")?;
+    say(writer, c.odd, b" lines not understood\n")?;
+    say(writer, c.differ, b" differences\n")?;
     if c.differ != 0 {
-        say(c.line, b" is the line of the first\n");
+        say(writer, c.line, b" is the line of the first\n")?;
         say(
+            writer,
             c.cell,
             b" is its cell, 20496 the answer, 20497 the freed tokens\n",
-        );
+        )?;
     }
+    Ok(())
 }
 
 // Returns the first where the test is true, else the second.
@@ -918,7 +921,7 @@ fn part(l: &[u64], k: usize) -> usize
     if k < l.len() { k } else { l.len() }
 }
 
-fn main() {
+fn main(rt: HostRuntime) -> io::Result<()> {
     let mut globals = [0u64; 8];
     let mut participants = start::participant_buffer();
     let mut nodes = start::node_buffer();
@@ -927,7 +930,7 @@ fn main() {
     let mut freed = [0u64; 64];
     let mut cells = [0u64; 20496];
     let mut line = [0u64; 1024];
-    let mut block = io::large_buffer();
+    let mut block = stream::large_buffer();
     let s = State {
         reader: new_line(),
         course: Course {
@@ -943,7 +946,9 @@ fn main() {
             cell: 0,
         },
     };
+    let mut input = rt.stdin();
     let read = read_all(
+        &mut input,
         &mut block,
         s,
         &mut line,
@@ -954,7 +959,7 @@ fn main() {
         &mut held,
         &mut queued,
         &mut freed,
-    );
+    )?;
     let last = feed(
         b'\n',
         read,
@@ -967,5 +972,6 @@ fn main() {
         &mut queued,
         &mut freed,
     );
-    report(last.course);
+    let mut writer = rt.stdout();
+    report(&mut writer, last.course)
 }
