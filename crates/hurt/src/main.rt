@@ -12,8 +12,8 @@ ghost use Rattle.std.specs.Prelude.{◌≡◌, ◌+◌, ◌<◌, ◌≤◌, leng
 ghost use Rattle.hurt.specs.Hurt.{Fits};
 
 use definition::{Answer, Call};
-use libc::{STDIN_FILENO, STDOUT_FILENO};
 use script::Action;
+use std::io::{self, Write};
 
 // The sizes of the tables, and the words of all five lists, one list after another.
 const N: usize = 3;
@@ -455,23 +455,24 @@ fn play_record(
 }
 
 // Writes a number and what it counts.
-fn say(v: u64, what: &[u8]) {
-    io::print_decimal(STDOUT_FILENO, v);
-    io::write_all(STDOUT_FILENO, what);
+fn say<W: Write>(writer: &mut W, v: u64, what: &[u8]) -> io::Result<()> {
+    stream::write_decimal(writer, v)?;
+    writer.write_all(what)
 }
 
 // Says what came of a moment.
-fn report(t: Tally) {
-    say(t.damaged, b" damaged, ");
-    say(t.refused, b" refused, ");
-    say(t.done, b" done, ");
-    say(t.more, b" more, sum ");
-    say(t.sum, b", changed by a refusal ");
-    say(t.wrong, b"\n");
+fn report<W: Write>(writer: &mut W, t: Tally) -> io::Result<()> {
+    say(writer, t.damaged, b" damaged, ")?;
+    say(writer, t.refused, b" refused, ")?;
+    say(writer, t.done, b" done, ")?;
+    say(writer, t.more, b" more, sum ")?;
+    say(writer, t.sum, b", changed by a refusal ")?;
+    say(writer, t.wrong, b"\n")
 }
 
 // Plays the records of a block, and tries every word after each `EVERY` of them.
-fn run(
+fn run<W: Write>(
+    writer: &mut W,
     block: &[u8],
     kept: &mut [u64],
     globals: &mut [u64],
@@ -480,7 +481,7 @@ fn run(
     held: &mut [u64],
     queued: &mut [u64],
     freed: &mut [u64],
-)
+) -> io::Result<()>
     requires { Fits kept.old globals.old participants.old nodes.old held.old queued.old }
 {
     let mut at: usize = 0;
@@ -488,6 +489,7 @@ fn run(
         let end = at + 8;
         let moment = (at / 8) as u64;
         one_record(
+            writer,
             &block[at..end],
             moment,
             kept,
@@ -497,13 +499,15 @@ fn run(
             held,
             queued,
             freed,
-        );
+        )?;
         at = end;
     }
+    Ok(())
 }
 
 // Plays a record, and tries every word if this is a moment to do so.
-fn one_record(
+fn one_record<W: Write>(
+    writer: &mut W,
     bytes: &[u8],
     moment: u64,
     kept: &mut [u64],
@@ -513,7 +517,7 @@ fn one_record(
     held: &mut [u64],
     queued: &mut [u64],
     freed: &mut [u64],
-)
+) -> io::Result<()>
     requires { Fits kept.old globals.old participants.old nodes.old held.old queued.old }
 {
     play_record(
@@ -537,11 +541,12 @@ fn one_record(
             queued,
             freed,
         );
-        report(t);
+        report(writer, t)?;
     }
+    Ok(())
 }
 
-fn main() {
+fn main(rt: HostRuntime) -> io::Result<()> {
     let mut globals = [0u64; 7];
     let mut participants = [0u64; 63];
     let mut nodes = [0u64; 12];
@@ -549,9 +554,12 @@ fn main() {
     let mut queued = [0u64; 256];
     let mut freed = [0u64; 64];
     let mut kept = [0u64; 530];
-    let mut block = io::large_buffer();
-    let n = io::read_full(STDIN_FILENO, &mut block);
+    let mut block = stream::large_buffer();
+    let mut reader = rt.stdin();
+    let n = stream::read_full(&mut reader, &mut block)?;
+    let mut writer = rt.stdout();
     run(
+        &mut writer,
         &block[..n],
         &mut kept,
         &mut globals,
@@ -560,5 +568,5 @@ fn main() {
         &mut held,
         &mut queued,
         &mut freed,
-    );
+    )
 }
