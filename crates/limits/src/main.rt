@@ -4,10 +4,10 @@
 #![tactic(auto)]
 
 ghost use Rattle.std.specs.Prelude.{◌≤◌};
-ghost use Rattle.io.specs.Counts.{IsPrefixLen};
+ghost use Rattle.stream.specs.Counts.{IsPrefixLen};
 
 use definition::{Answer, Call};
-use libc::STDOUT_FILENO;
+use std::io::{self, Write};
 
 // Returns the first, second, third or fourth number to try for N: none, the least, the most, one more.
 fn participants_tried(i: u64) -> usize
@@ -66,27 +66,28 @@ fn part(l: &[u64], k: usize) -> usize
 }
 
 // Writes a text.
-fn say(text: &[u8]) {
-    io::write_all(STDOUT_FILENO, text);
+fn say<W: Write>(writer: &mut W, text: &[u8]) -> io::Result<()> {
+    writer.write_all(text)
 }
 
 // Writes a text and a number.
-fn say_number(text: &[u8], v: u64) {
-    io::write_all(STDOUT_FILENO, text);
-    io::print_decimal(STDOUT_FILENO, v);
+fn say_number<W: Write>(writer: &mut W, text: &[u8], v: u64) -> io::Result<()> {
+    writer.write_all(text)?;
+    stream::write_decimal(writer, v)
 }
 
 // Writes an answer.
-fn say_answer(answer: Answer) {
+fn say_answer<W: Write>(writer: &mut W, answer: Answer) -> io::Result<()> {
     match answer {
-        Answer::Done(v, _) => say_number(b", done ", v),
-        Answer::More(_) => say(b", more"),
-        Answer::Refused(r) => say_number(b", refused ", r),
+        Answer::Done(v, _) => say_number(writer, b", done ", v),
+        Answer::More(_) => say(writer, b", more"),
+        Answer::Refused(r) => say_number(writer, b", refused ", r),
     }
 }
 
 // Starts afresh and registers, on lists as they are lent, and writes the answers.
-fn begin(
+fn begin<W: Write>(
+    writer: &mut W,
     n: usize,
     m: usize,
     globals: &mut [u64],
@@ -94,13 +95,20 @@ fn begin(
     nodes: &mut [u64],
     held: &mut [u64],
     queued: &mut [u64],
-) {
-    say_answer(reclaimer::start(n, m, globals, participants, nodes, held, queued));
-    say_answer(reclaimer::register(n, m, globals, participants, nodes, held, queued));
+) -> io::Result<()> {
+    say_answer(
+        writer,
+        reclaimer::start(n, m, globals, participants, nodes, held, queued),
+    )?;
+    say_answer(
+        writer,
+        reclaimer::register(n, m, globals, participants, nodes, held, queued),
+    )
 }
 
 // Calls for a pin and makes a step, and writes the answers.
-fn go_on(
+fn go_on<W: Write>(
+    writer: &mut W,
     n: usize,
     m: usize,
     globals: &mut [u64],
@@ -109,35 +117,42 @@ fn go_on(
     held: &mut [u64],
     queued: &mut [u64],
     freed: &mut [u64],
-) {
-    say_answer(reclaimer::call(
-        n,
-        m,
-        globals,
-        participants,
-        nodes,
-        held,
-        queued,
-        0,
-        Call::Pin,
-    ));
-    say_answer(reclaimer::step(
-        n,
-        m,
-        globals,
-        participants,
-        nodes,
-        held,
-        queued,
-        0,
-        false,
-        freed,
-    ));
-    say(b"\n");
+) -> io::Result<()> {
+    say_answer(
+        writer,
+        reclaimer::call(
+            n,
+            m,
+            globals,
+            participants,
+            nodes,
+            held,
+            queued,
+            0,
+            Call::Pin,
+        ),
+    )?;
+    say_answer(
+        writer,
+        reclaimer::step(
+            n,
+            m,
+            globals,
+            participants,
+            nodes,
+            held,
+            queued,
+            0,
+            false,
+            freed,
+        ),
+    )?;
+    say(writer, b"\n")
 }
 
 // Makes the four calls on lists as they are lent.
-fn ask(
+fn ask<W: Write>(
+    writer: &mut W,
     n: usize,
     m: usize,
     globals: &mut [u64],
@@ -146,13 +161,24 @@ fn ask(
     held: &mut [u64],
     queued: &mut [u64],
     freed: &mut [u64],
-) {
-    begin(n, m, globals, participants, nodes, held, queued);
-    go_on(n, m, globals, participants, nodes, held, queued, freed);
+) -> io::Result<()> {
+    begin(writer, n, m, globals, participants, nodes, held, queued)?;
+    go_on(
+        writer,
+        n,
+        m,
+        globals,
+        participants,
+        nodes,
+        held,
+        queued,
+        freed,
+    )
 }
 
 // Lends lists of the lengths of a case.
-fn try_case(
+fn try_case<W: Write>(
+    writer: &mut W,
     n: usize,
     m: usize,
     case: u64,
@@ -162,7 +188,7 @@ fn try_case(
     held: &mut [u64],
     queued: &mut [u64],
     freed: &mut [u64],
-)
+) -> io::Result<()>
     requires { (n ≤ 33) × (m ≤ 129) }
 {
     let g = part(
@@ -175,6 +201,7 @@ fn try_case(
     let q = part(queued, lent_length(m * 64, case, 4));
     let f = part(freed, places(case));
     ask(
+        writer,
         n,
         m,
         &mut globals[..g],
@@ -183,28 +210,30 @@ fn try_case(
         &mut held[..h],
         &mut queued[..q],
         &mut freed[..f],
-    );
+    )
 }
 
 // Tries all cases: four numbers of participants, four of nodes, thirteen sets of lengths.
-fn try_all(
+fn try_all<W: Write>(
+    writer: &mut W,
     globals: &mut [u64],
     participants: &mut [u64],
     nodes: &mut [u64],
     held: &mut [u64],
     queued: &mut [u64],
     freed: &mut [u64],
-) {
+) -> io::Result<()> {
     let mut k: u64 = 0;
     while k < 208 {
         let n = participants_tried(k / 52);
         let m = nodes_tried(k / 13 % 4);
         let case = k % 13;
-        say_number(b"N ", n as u64);
-        say_number(b", M ", m as u64);
-        say_number(b", case ", case);
+        say_number(writer, b"N ", n as u64)?;
+        say_number(writer, b", M ", m as u64)?;
+        say_number(writer, b", case ", case)?;
         k += 1;
         try_case(
+            writer,
             n,
             m,
             case,
@@ -214,23 +243,26 @@ fn try_all(
             held,
             queued,
             freed,
-        );
+        )?;
     }
+    Ok(())
 }
 
-fn main() {
+fn main(rt: HostRuntime) -> io::Result<()> {
     let mut globals = [0u64; 10];
     let mut participants = [0u64; 694];
     let mut nodes = [0u64; 388];
     let mut held = [0u64; 2113];
     let mut queued = [0u64; 8257];
     let mut freed = [0u64; 65];
+    let mut writer = rt.stdout();
     try_all(
+        &mut writer,
         &mut globals,
         &mut participants,
         &mut nodes,
         &mut held,
         &mut queued,
         &mut freed,
-    );
+    )
 }
