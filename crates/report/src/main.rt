@@ -24,7 +24,7 @@ struct Surveyed {
     reports: [Report; 32],
 }
 
-// Surveys the tables. The list of reports is lent here and nowhere else: whoever calls this needs no walk.
+// Surveys the tables. The list of reports is lent here and nowhere else.
 fn survey(
     globals: &[u64],
     participants: &[u64],
