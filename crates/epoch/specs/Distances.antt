@@ -1,5 +1,5 @@
 -- The distances that are worked by hand, as one table: the number of epochs that the word a is ahead of the word b. Proved of
--- `wrappingSub` in proofs/Cases.antt. Assumes nothing.
+-- `wrapping_sub` in proofs/Cases.antt. Assumes nothing.
 use Rattle.std.specs.Prelude.{ℕ, ◌-◌, ◌^◌, List, [], ◌∷◌, ℤ, pos, neg_ℤ}
 
 -- two words and the distance from b to a

@@ -1,6 +1,6 @@
 -- The ranges row by row: what one participant's row and bag have to be, and what one node's have to be, where the lists are read as
--- rows. One pass over a list looks at all that is in a row. The definition's `inRange` asks the same, column by column
--- (`inRange-rows` of proofs/Laws). Assumes nothing.
+-- rows. One pass over a list looks at all that is in a row. The definition's `in_range` asks the same, column by column
+-- (`in_range-rows` of proofs/Laws). Assumes nothing.
 use Rattle.std.specs.Prelude.{Bool, ◌&&◌, List, ℕ, ◌+◌, leb, get_or}
 use Rattle.definition.specs.Base.{Tab}
 use Rattle.definition.specs.Bags.{max_objects}

@@ -1,4 +1,4 @@
--- Refusal 1 never occurs. The definition's test `inRange` asks for what the invariant says of the machine, and for six facts about how the tables
+-- Refusal 1 never occurs. The definition's test `in_range` asks for what the invariant says of the machine, and for six facts about how the tables
 -- hold it, which the machine does not show (`Stored`): every record's place is in its canonical code, no free bit is set beyond the table, a
 -- sealed bag is no longer than a bag may be, and every word of a held item is one of an item. These six are kept by every step, call and
 -- registering of the definition, and hold at a fresh start. With the node that a step must take (Roomy) this excludes refusal 1 in both its

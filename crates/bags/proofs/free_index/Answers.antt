@@ -1,5 +1,4 @@
 -- A node or a slot is given back in its own bits, whose word is in the list, since that is required.
---
 use borrow.Author.Tests.{ltb-true}
 use Rattle.bags.specs.Bags.{free_item, has_bit}
 use Rattle.bags.proofs.free_index.Goals as goal

@@ -1,5 +1,4 @@
 -- Each arm is the function of its clause, which promises the same for every spare node and all seals.
---
 use Rattle.definition.specs.Rule.{asks}
 use Rattle.definition.specs.Internal.{rule}
 use Rattle.internal.proofs.asks_at.Goals as goal

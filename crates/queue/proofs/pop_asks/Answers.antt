@@ -1,5 +1,4 @@
 -- Each arm asks for the access of its clause; the indices that it makes words of fit by the `requires`.
---
 use Rattle.definition.specs.Rule.{asks}
 use Rattle.definition.specs.Queue.{pop}
 use Rattle.queue.proofs.pop_asks.Goals as goal

@@ -1,5 +1,4 @@
 -- Each word is asked by its own function, and the total's comparison is the definition's.
---
 use Rattle.ranges.specs.Rows.{globals_in}
 use Rattle.ranges.proofs.globals_in.Goals as goal
 

@@ -1,5 +1,5 @@
 -- The lists have the right lengths, so that every part can be asked, and the parts row by row are the
--- definition's column by column (`inRange-rows`).
+-- definition's column by column (`in_range-rows`).
 use native.Mathlib.Omega.{arith}
 use Rattle.definition.specs.Ranges.{bit_words}
 use Rattle.definition.specs.Layout.{global_words}

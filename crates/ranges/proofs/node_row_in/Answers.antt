@@ -1,5 +1,4 @@
 -- The two words are those of the node's row (`node-row`), and each is asked by its own function.
---
 use Rattle.ranges.proofs.Laws.{node-row}
 use Rattle.ranges.proofs.node_row_in.Goals as goal
 

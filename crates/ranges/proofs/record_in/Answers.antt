@@ -1,5 +1,4 @@
 -- The comparisons are the definition's, with its numbers, and the rest is asked by functions of their own.
---
 use Rattle.definition.specs.Calls.{max_count}
 use Rattle.definition.specs.Ranges.{record_in}
 use Rattle.ranges.proofs.record_in.Goals as goal

@@ -1,5 +1,4 @@
 -- Each arm is the definition's clause; what is required of the whole place is what its group requires.
---
 use Rattle.definition.specs.Codec.{code_of}
 use Rattle.records.proofs.Fits.{push-fits}
 use Rattle.records.proofs.encode.Goals as goal

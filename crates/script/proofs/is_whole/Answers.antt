@@ -1,5 +1,4 @@
 -- Each test that fails ends it, as in the definition, and the last two are chosen by the action.
---
 use borrow.Author.Tests.{eq-eqb, ne_eqb, le-leb, lt-leb}
 use Rattle.definition.specs.Schedule.{whole}
 use Rattle.script.proofs.is_whole.Goals as goal

@@ -1,5 +1,4 @@
 -- Each arm knows which work it has, does to each list what its callees promise, and leaves the others.
---
 use mathlib.Core.Path.{refl}
 use Rattle.settle.specs.Settle.{settled_globals, settled_nodes, settled_held, settled_queued, settled_tokens}
 use Rattle.settle.proofs.settle.Goals as goal

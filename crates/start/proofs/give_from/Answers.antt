@@ -1,5 +1,4 @@
 -- The loop's invariant: the first j of the indices are given back, and the list is as long as it was.
---
 use mathlib.Core.Path.{◌≡◌, refl, ap, ◌∙◌}
 use Prim.Native.Nat.{◌+◌}
 use native.Mathlib.Omega.{arith}

@@ -1,5 +1,4 @@
 -- Each arm reads the word where the definition has it; the row that is required holds the index.
---
 use native.Mathlib.Nat.{add-zero}
 use native.Mathlib.Omega.{arith}
 use Rattle.definition.specs.Base.{branch}

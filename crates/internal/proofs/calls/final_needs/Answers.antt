@@ -1,5 +1,4 @@
 -- The choice is by whether the call finalizes; a pin's need is small, so one more does not wrap.
---
 use Rattle.std.proofs.Common.{arith}
 use Rattle.internal.proofs.Inner.{pin-needs-small}
 use Rattle.internal.proofs.calls.final_needs.Goals as goal
