@@ -21,7 +21,7 @@ const N: usize = 32;
 
 const M: usize = 128;
 
-// The bytes that the longest line takes: an answer, and 64 tokens (`line-most` of `script`).
+// The bytes that the longest line takes: an answer, and 64 tokens (`line_most` of `script`).
 const LINE: usize = 1437;
 
 // Where the playing of a block stopped: the bytes of the block that are played, and the bytes of lines that are put.
