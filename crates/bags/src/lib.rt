@@ -137,8 +137,8 @@ pub fn free_bag(
     freed: &mut [u64],
 ) -> u64
     requires node_in_bounds { (node * 3 + 3 ≤ length nodes.old) × (node * 64 + bag_len nodes.old node ≤ length queued.now) }
-    requires node_in_bounds_2 { bag_len nodes.old node ≤ length freed.old }
-    requires node_value { have_bits n (length globals.old) (bag_len nodes.old node) (words_at queued.now (node * 64)) ≡ true }
+    requires room { bag_len nodes.old node ≤ length freed.old }
+    requires have_their_bits { have_bits n (length globals.old) (bag_len nodes.old node) (words_at queued.now (node * 64)) ≡ true }
     ensures { (result ≡ length (tokens (bag_items nodes.old queued.now node)))
         × ((globals.new ≡ free_items n (bag_items nodes.old queued.now node) globals.old)
         × ((nodes.new ≡ set nodes.old (node * 3 + 2) 0)
@@ -161,7 +161,7 @@ fn free_items(
     freed: &mut [u64],
 ) -> usize
     requires k_in_bounds { (at + k ≤ length queued.now) × (k ≤ length freed.old) }
-    requires at_value { have_bits n (length globals.old) k (words_at queued.now at) ≡ true }
+    requires have_their_bits { have_bits n (length globals.old) k (words_at queued.now at) ≡ true }
     ensures { (result ≡ length (tokens (items k (words_at queued.now at))))
         × ((globals.new ≡ free_items n (items k (words_at queued.now at)) globals.old)
         × (freed.new ≡ filled (tokens (items k (words_at queued.now at))) freed.old)) }

@@ -38,7 +38,7 @@ pub fn node_bits_at(n: usize) -> usize
 // Returns the smallest free index below `n`, or `n` where none is free: the lowest set bit of the first word that has one.
 pub fn first_free(globals: &[u64], at: usize, k: usize, n: usize) -> usize
     requires k_in_bounds { (at + k ≤ length globals.now) × (k ≤ 64) }
-    requires at_value { within k n (bits k (words_at globals.now at)) ≡ true }
+    requires none_beyond { within k n (bits k (words_at globals.now at)) ≡ true }
     ensures { result ≡ least n (bits k (words_at globals.now at)) }
 {
     let mut j: usize = 0;
@@ -56,7 +56,7 @@ pub fn first_free(globals: &[u64], at: usize, k: usize, n: usize) -> usize
 // Returns how many of the indices below `n` are free.
 pub fn count_free(globals: &[u64], at: usize, k: usize, n: usize) -> u64
     requires k_in_bounds { (at + k ≤ length globals.now) × (k ≤ 64) }
-    requires at_value { within k n (bits k (words_at globals.now at)) ≡ true }
+    requires none_beyond { within k n (bits k (words_at globals.now at)) ≡ true }
     ensures { result ≡ count n (bits k (words_at globals.now at)) }
 {
     let mut total: u64 = 0;

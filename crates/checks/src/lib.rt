@@ -79,7 +79,7 @@ pub fn slot_free(globals: &[u64], n: usize, p: usize) -> bool
 // Returns how many slots are free.
 fn free_slots(globals: &[u64], n: usize) -> u64
     requires n_bound { (n ≤ 4096) × (5 + bit_words n ≤ length globals.now) }
-    requires globals_value { within (bit_words n) n (slot_bits n globals.now) ≡ true }
+    requires none_beyond { within (bit_words n) n (slot_bits n globals.now) ≡ true }
     ensures { result ≡ count n (slot_bits n globals.now) }
 {
     count_free(globals, slot_bits_at(), bit_words(n), n)
@@ -88,7 +88,7 @@ fn free_slots(globals: &[u64], n: usize) -> u64
 // Returns how many nodes are free.
 fn free_nodes(globals: &[u64], n: usize, m: usize) -> u64
     requires m_bound { (m ≤ 4096) × (5 + bit_words n + bit_words m ≤ length globals.now) }
-    requires globals_value { within (bit_words m) m (node_bits n m globals.now) ≡ true }
+    requires none_beyond { within (bit_words m) m (node_bits n m globals.now) ≡ true }
     ensures { result ≡ count m (node_bits n m globals.now) }
 {
     count_free(globals, node_bits_at(n), bit_words(m), m)
@@ -174,7 +174,7 @@ fn step_at(
     places: usize,
 ) -> u64
     requires m_bound { (m ≤ 4096) × ((5 + bit_words n + bit_words m ≤ length globals.now) × (n * 21 ≤ length participants.now)) }
-    requires globals_value { within (bit_words m) m (node_bits n m globals.now) ≡ true }
+    requires none_beyond { within (bit_words m) m (node_bits n m globals.now) ≡ true }
     ensures { (nodes held queued : List ℕ) → result ≡ refusal (step_rest n m places p (tables_of n m (lent globals.now participants.now nodes held queued))) }
 {
     let short = places < MAX_OBJECTS;
@@ -206,7 +206,7 @@ fn call_at(
     c: Call,
 ) -> u64
     requires n_bound { (n ≤ 4096) × ((m ≤ 4096) × ((5 + bit_words n + bit_words m ≤ length globals.now) × ((n * 21 ≤ length participants.now) × (n * 64 ≤ length held.now)))) }
-    requires globals_value { within (bit_words m) m (node_bits n m globals.now) ≡ true }
+    requires none_beyond { within (bit_words m) m (node_bits n m globals.now) ≡ true }
     requires p_bound { p < n → (row participants.now p).held ≤ 64 }
     ensures { (nodes queued : List ℕ) → result ≡ refusal (call_rest n m p c (tables_of n m (lent globals.now participants.now nodes held.now queued))) }
 {

@@ -51,28 +51,28 @@ module _ (x : ℕ) (d : Tab ℕ) where
   held k = among x (tokens (items k d))
 
   -- whether the item at place j is the token
-  abbrev pub held_at_lem : ℕ → Bool
-  held_at_lem j = among x (tokens (item_of (d j) ∷ []))
+  abbrev pub held_at : ℕ → Bool
+  held_at j = among x (tokens (item_of (d j) ∷ []))
 
   -- among none it is not; among one more it is if it was, or if it is that one
   pub held_none : held 0 ≡ false
   unfolding items listed tokens among
   held_none = refl
 
-  pub held_more : (k : ℕ) → held (suc k) ≡ branch (held k) true (held_at_lem k)
+  pub held_more : (k : ℕ) → held (suc k) ≡ branch (held k) true (held_at k)
   unfolding items listed
   held_more k =
       ap (among x) (tokens_append (items k d) (item_of (d k) ∷ [])) ∙ among_append x (tokens (items k d)) (tokens (item_of (d k) ∷ []))
 
   -- it is where one of them is it
-  pub held_some : (k j : ℕ) → j < k → held_at_lem j ≡ true → held k ≡ true
+  pub held_some : (k j : ℕ) → j < k → held_at j ≡ true → held k ≡ true
   held_some zero j lt h = absurd (omega arith)
   held_some (suc k) j lt h =
       held_more k ∙ branch_ind (λ (b : Bool). b ≡ true) (held k) (λ _. refl)
       (λ none. same? j k (λ e. rw (← e) h) (λ ne. absurd (true≢false (sym (held_some k j (omega arith) h) ∙ none))))
 
   -- and only there
-  pub held-place : {P : Type 0} (k : ℕ) → held k ≡ true → ((j : ℕ) → j < k → held_at_lem j ≡ true → P) → P
+  pub held-place : {P : Type 0} (k : ℕ) → held k ≡ true → ((j : ℕ) → j < k → held_at j ≡ true → P) → P
   held-place zero h found = absurd (false≢true (sym held_none ∙ h))
   held-place {P} (suc k) h found =
       branch_ind (λ (b : Bool). b ≡ true → P) (held k)

@@ -388,7 +388,7 @@ pub fn in_range(
       queued = queued.now;
     }) ≡ true }
     ensures { result ≡ in_range n m (tables_of n m (record {
-      globals = globals.entry.now;
+      globals = globals.now;
       participants = participants.now;
       nodes = nodes.now;
       held = held.now;
@@ -424,7 +424,7 @@ fn lengths(
 ) -> bool
     requires { (n < 2 ^ 32) × (m < 2 ^ 32) }
     ensures { result ≡ sized n m (record {
-      globals = globals.entry.now;
+      globals = globals.now;
       participants = participants.now;
       nodes = nodes.now;
       held = held.now;
@@ -449,7 +449,7 @@ pub fn sizes(
     queued: &[u64],
 ) -> bool
     ensures { result ≡ (within_limits n m && sized n m (record {
-      globals = globals.entry.now;
+      globals = globals.now;
       participants = participants.now;
       nodes = nodes.now;
       held = held.now;

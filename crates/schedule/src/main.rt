@@ -47,7 +47,7 @@ fn play_record(
     requires fits { Fits globals.old participants.old nodes.old held.old queued.old freed.old }
     ensures puts { Puts out.old at (line (played bytes.now (tables_of 32 128 (lent globals.old participants.old nodes.old held.old queued.old))))
         out.new result }
-    ensures queued_after { lent globals.new participants.new nodes.new held.new queued.new
+    ensures lists_after { lent globals.new participants.new nodes.new held.new queued.new
         ≡ (acts 32 128 (lent globals.old participants.old nodes.old held.old queued.old) freed.old (action_in bytes.now)).lent }
     ensures upper_bound { result ≤ at + 1437 }
 {

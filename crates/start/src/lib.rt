@@ -108,8 +108,8 @@ pub fn start(
     held: &mut [u64],
     queued: &mut [u64],
 )
-    requires le_m { 1 ≤ m }
-    requires queued_value { sized n m (record {
+    requires has_node { 1 ≤ m }
+    requires sized_lists { sized n m (record {
       globals = globals.old;
       participants = participants.old;
       nodes = nodes.old;

@@ -366,9 +366,9 @@ module _ (N M : ℕ) (m : Machine) (g : Ghost) (inv : Inv N M m g) where
   -- the slot that is unlinked is in the list, so what stands behind it is
   succ-links : (b : ℕ) (q : Pred) (curr : ℕ) → SafePred N g b q → read (pred_word q) m.shared ≡ link curr → ToLinked N g.slot_use (pointee (m.shared.entry_next curr))
   succ-links b q curr h is =
-      let in_List = to_slot N g.slot_use curr (pointee (read (pred_word q) m.shared)) (ap pointee is ∙ pointee-link curr)
+      let listed_there = to_slot N g.slot_use curr (pointee (read (pred_word q) m.shared)) (ap pointee is ∙ pointee-link curr)
       (pred-links b q h (link_untagged (read (pred_word q) m.shared) curr is)) in
-      inv.listed.next curr in_List.0 in_List.1
+      inv.listed.next curr listed_there.0 listed_there.1
 
   module _ (m' : Machine) (g' : Ghost) (b : ℕ) where
     abbrev After' : After → Type 0

@@ -171,7 +171,7 @@ module _ (N : ℕ) (u : Tab Use) (birth : Tab ℕ) (births : ℕ) (first : Ptr) 
         older x y ni nj lt = let a = put_other birth p x (births + 1) ni in let b = put_other birth p y (births + 1) nj in omega arith
 
   -- slot c, which leaves the list: it is tagged or not, all that counts is who points to it
-  module _ (c : ℕ) (hc : c < N) (in_List : u c ≡ Use.linked) where
+  module _ (c : ℕ) (hc : c < N) (listed_there : u c ≡ Use.linked) where
     abbrev without : Tab Use
     without = put u c Use.out
 
@@ -182,17 +182,17 @@ module _ (N : ℕ) (u : Tab Use) (birth : Tab ℕ) (births : ℕ) (first : Ptr) 
         (λ ne. (sym (put_other u c s Use.out ne) ∙ e, ne))
 
     born_before : (s : ℕ) → Born (without s) → Born (u s)
-    born_before s b = same? c s (λ i. rw (← i) (born_linked (u c) in_List)) (λ ne. rw (put_other u c s Use.out ne) at b)
+    born_before s b = same? c s (λ i. rw (← i) (born_linked (u c) listed_there)) (λ ne. rw (put_other u c s Use.out ne) at b)
 
     -- what c points to is not c
     past_itself : to c ≢ Ptr.At (record { 0 = c })
-    past_itself e = omega (arith, falls-slot birth (birth c) c (to c) e (ord.falls c hc in_List))
+    past_itself e = omega (arith, falls-slot birth (birth c) c (to c) e (ord.falls c hc listed_there))
 
     -- a slot that is not newer than c is c or behind it
     behind : (y : ℕ) → y < N → without y ≡ Use.linked → birth y ≤ birth c → Reached birth (to c) y
     behind y lt e le =
-        let ne : birth y ≢ birth c = λ i. (stays y e).1 (sym (ord.differ y c lt hc (born_linked (u y) (stays y e).0) (born_linked (u c) in_List) i)) in
-        ord.next_reaches c y hc lt in_List (stays y e).0 (omega arith)
+        let ne : birth y ≢ birth c = λ i. (stays y e).1 (sym (ord.differ y c lt hc (born_linked (u y) (stays y e).0) (born_linked (u c) listed_there) i)) in
+        ord.next_reaches c y hc lt listed_there (stays y e).0 (omega arith)
 
     -- one predecessor: where the head points to c, no slot in the list does
     head_alone : first ≡ Ptr.At (record { 0 = c }) → (x : ℕ) → x < N → u x ≡ Use.linked → to x ≢ Ptr.At (record { 0 = c })
@@ -204,7 +204,7 @@ module _ (N : ℕ) (u : Tab Use) (birth : Tab ℕ) (births : ℕ) (first : Ptr) 
     order_behead at_head = record {
       birth_le = λ q lt b. ord.birth_le q lt (born_before q b);
       differ = λ a b la lb ba bb. ord.differ a b la lb (born_before a ba) (born_before b bb);
-      head = to_others N u c (to c) past_itself (ord.next c hc in_List);
+      head = to_others N u c (to c) past_itself (ord.next c hc listed_there);
       next = λ q lt e. to_others N u c (to q) (head_alone at_head q lt (stays q e).0) (ord.next q lt (stays q e).0);
       falls = λ q lt e. ord.falls q lt (stays q e).0;
       head_reaches = λ y lt e. behind y lt e (reached-slot birth c y first at_head (ord.head_reaches y lt (stays y e).0));
@@ -235,10 +235,10 @@ module _ (N : ℕ) (u : Tab Use) (birth : Tab ℕ) (births : ℕ) (first : Ptr) 
         differ = λ a b la lb ba bb. ord.differ a b la lb (born_before a ba) (born_before b bb);
         head = to_others N u c first head_other ord.head;
         next = λ q lt e. put_ind (ToLinked N without) to x q (to c)
-            (λ _. to_others N u c (to c) past_itself (ord.next c hc in_List))
+            (λ _. to_others N u c (to c) past_itself (ord.next c hc listed_there))
             (λ ne. to_others N u c (to q) (alone q lt (stays q e).0 ne) (ord.next q lt (stays q e).0));
         falls = λ q lt e. put_ind (Falls birth (birth q)) to x q (to c)
-            (λ i. falls_on birth (birth c) (birth q) (rw (← i) above) (to c) (ord.falls c hc in_List))
+            (λ i. falls_on birth (birth c) (birth q) (rw (← i) above) (to c) (ord.falls c hc listed_there))
             (λ _. ord.falls q lt (stays q e).0);
         head_reaches = λ y lt e. ord.head_reaches y lt (stays y e).0;
         next_reaches = λ q y lq ly eq ey lt. put_ind (λ l. Reached birth l y) to x q (to c)

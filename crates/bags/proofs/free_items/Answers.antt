@@ -24,7 +24,7 @@ free_index-requires c =
     let has : Tab Bool = λ j. has_bit c.args.n (length c.args.globals.now) (item_of (words_at c.args.queued.now c.args.at j)) in
     ap (λ (len : ℕ). has_bit c.args.n len c.item_of-item.result) (freed-bits-length i.invariant.1)
     ∙ ap (has_bit c.args.n (length c.args.globals.now)) c.item_of-item.ensures
-    ∙ all_at c.args.k has i.j c.requires.at_value c.loop-j-test.true
+    ∙ all_at c.args.k has i.j c.requires.have_their_bits c.loop-j-test.true
 
 pub free_token-t-requires : goal.free_token-t-requires
 free_token-t-requires c =

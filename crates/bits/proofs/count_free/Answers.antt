@@ -43,4 +43,4 @@ pub returns : goal.returns
 returns c =
     let words = words_at c.args.globals.now c.args.at in
     let e : c.loop-j.j ≡ c.args.k = omega arith in
-    c.loop-j.invariant.1.1 ∙ ap (λ (j : ℕ). count (64 * j) (bits c.args.k words)) e ∙ count_end c.args.k words c.args.n c.requires.at_value
+    c.loop-j.invariant.1.1 ∙ ap (λ (j : ℕ). count (64 * j) (bits c.args.k words)) e ∙ count_end c.args.k words c.args.n c.requires.none_beyond

@@ -30,7 +30,7 @@ returns-then-w-ne0 c =
     let j = c.loop-j.j in
     let fits = (c.type_inv.globals (c.args.at + j)).fits in
     first_here c.args.k (words_at c.args.globals.now c.args.at) j c.loop-j-test.true
-    fits c.if-w-ne0.true c.args.n c.requires.at_value c.loop-j.invariant.1
+    fits c.if-w-ne0.true c.args.n c.requires.none_beyond c.loop-j.invariant.1
 
 pub loop-j-preserved : goal.loop-j-preserved
 loop-j-preserved c =

@@ -16,7 +16,7 @@ call_at-k-requires c =
     let s = sized_is _ _ _ w.lengths in
     record {
       n_bound = (omega arith, (omega arith, (omega arith, (omega arith, omega arith))));
-      globals_value = nodes-within _ _ _ w;
+      none_beyond = nodes-within _ _ _ w;
       p_bound = λ h. held-within _ _ _ w _ h;
     }
 

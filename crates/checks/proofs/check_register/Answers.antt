@@ -14,7 +14,7 @@ free_slots-free-requires c =
     let w = damage_none _ _ _ (sym c.damage-first.ensures ∙ c.if-first-ne0.false) in
     let t = limits-small _ _ w.limits in
     let s = sized_is _ _ _ w.lengths in
-    record { n_bound = (omega arith, omega arith); globals_value = slots_within _ _ _ w }
+    record { n_bound = (omega arith, omega arith); none_beyond = slots_within _ _ _ w }
 
 pub returns : goal.returns
 returns c = c.answer.ensures ∙ register_then _ _ _ _ c.damage-first.ensures _ _ c.if-first-ne0.false c.free_slots-free.ensures c.pick.ensures

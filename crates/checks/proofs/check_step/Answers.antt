@@ -14,7 +14,7 @@ step_at-k-requires c =
     let w = damage_none _ _ _ (sym c.damage-first.ensures ∙ c.if-first-ne0.false) in
     let t = limits-small _ _ w.limits in
     let s = sized_is _ _ _ w.lengths in
-    record { m_bound = (omega arith, (omega arith, omega arith)); globals_value = nodes-within _ _ _ w }
+    record { m_bound = (omega arith, (omega arith, omega arith)); none_beyond = nodes-within _ _ _ w }
 
 pub returns : goal.returns
 returns c = c.answer.ensures ∙ step_then _ _ _ _ c.damage-first.ensures _ _ _ c.if-first-ne0.false (c.step_at-k.ensures _ _ _)

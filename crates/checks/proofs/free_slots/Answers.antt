@@ -6,7 +6,7 @@ use Rattle.checks.proofs.free_slots.Goals as goal
 
 pub count_free-requires : goal.count_free-requires
 unfolding slot_bits global_words bit_words
-count_free-requires c = rw (c.slot_bits_at.ensures, c.bit_words.ensures) (record { k_in_bounds = (omega arith, omega arith); at_value = c.requires.globals_value })
+count_free-requires c = rw (c.slot_bits_at.ensures, c.bit_words.ensures) (record { k_in_bounds = (omega arith, omega arith); none_beyond = c.requires.none_beyond })
 
 pub returns : goal.returns
 unfolding slot_bits

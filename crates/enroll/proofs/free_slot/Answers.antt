@@ -8,7 +8,7 @@ pub first_free-requires : goal.first_free-requires
 unfolding slot_bits global_words bit_words
 first_free-requires c =
     let f = c.requires in
-    rw (c.slot_bits_at.ensures, c.bit_words.ensures) (record { k_in_bounds = (f.long, let small = f.small in omega arith); at_value = f.inside })
+    rw (c.slot_bits_at.ensures, c.bit_words.ensures) (record { k_in_bounds = (f.long, let small = f.small in omega arith); none_beyond = f.inside })
 
 pub returns : goal.returns
 unfolding slot_bits

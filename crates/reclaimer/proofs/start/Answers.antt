@@ -9,7 +9,7 @@ returns-then-not-taken c = start_refuses _ _ _ _ c.sizes-taken.ensures (ap not c
 pub start-requires : goal.start-requires
 start-requires c =
     let may = may_start _ _ _ _ c.sizes-taken.ensures (ap not c.if-not-taken.false) in
-    record { le_m = may.0; queued_value = may.1 }
+    record { has_node = may.0; sized_lists = may.1 }
 
 pub returns : goal.returns
 returns c = started _ _ _ _ c.sizes-taken.ensures (ap not c.if-not-taken.false) _ _ _ _ _ c.start.ensures

@@ -10,7 +10,7 @@ pub put_item-requires-in-PutThenFree : goal.put_item-requires-in-PutThenFree
 put_item-requires-in-PutThenFree c = let r = (rw c.in-PutThenFree.is at c.requires).0 in record { k_bound = r.0; k_in_bounds = r.1 }
 
 pub free_bag-requires : goal.free_bag-requires
-free_bag-requires c = let r = (rw c.in-PutThenFree.is at c.requires).1 in record { node_in_bounds = r.0; node_in_bounds_2 = r.1.0; node_value = r.1.1 }
+free_bag-requires c = let r = (rw c.in-PutThenFree.is at c.requires).1 in record { node_in_bounds = r.0; room = r.1.0; have_their_bits = r.1.1 }
 
 pub seal_bag-requires : goal.seal_bag-requires
 seal_bag-requires c = (rw c.in-Seal.is at c.requires).0

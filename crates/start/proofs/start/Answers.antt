@@ -6,11 +6,11 @@ use Rattle.start.proofs.Laws.{participants-fresh, nodes-fresh, held-fresh, queue
 use Rattle.start.proofs.start.Goals as goal
 
 pub start_globals-requires : goal.start_globals-requires
-start_globals-requires c = (c.requires.le_m, (sized_is _ _ _ c.requires.queued_value).globals)
+start_globals-requires c = (c.requires.has_node, (sized_is _ _ _ c.requires.sized_lists).globals)
 
 pub returns : goal.returns
 returns c =
-    let s = sized_is _ _ _ c.requires.queued_value in
+    let s = sized_is _ _ _ c.requires.sized_lists in
     let n = c.args.n in
     let m = c.args.m in (
       c.start_globals.ensures,

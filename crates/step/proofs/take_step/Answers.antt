@@ -11,7 +11,7 @@ pub first_free-spare-requires : goal.first_free-spare-requires
 first_free-spare-requires c =
     let s = c.requires in
     let asked = look_for _ _ _ _ s.sound s.below s.present _ _ c.node_bits_at-at.ensures c.bit_words-k.ensures in
-    record { k_in_bounds = asked.0; at_value = asked.1 }
+    record { k_in_bounds = asked.0; none_beyond = asked.1 }
 
 pub asks_at-ask-requires : goal.asks_at-ask-requires
 asks_at-ask-requires c = let s = c.requires in place_ok _ _ _ _ s.sound s.below s.present _ c.load-o.ensures
