@@ -96,6 +96,7 @@ CHANGES = [
     # ---- going on after a loss: nothing is freed early, lost or damaged by these, and crates/theorems accepts them; but somebody is never done
     Change("lost-unlink-same", "a walk that lost its unlink goes on with the same entry", ("alone",), [
         ("specs/List", "(walk t c.pred (pointee w) o)", "(walk t c.pred (Ptr.At c.curr) o)"),
+        ("specs/List", "use Rattle.definition.specs.Rule.{Rule}", "use Rattle.definition.specs.Rule.{Rule}\nuse Rattle.definition.specs.Types.{Ptr}"),
         ("proofs/Kept", "(walk-kept t c.pred (pointee seen.value) o h.0.0 (pointee_in seen.value w))",
          "(walk-kept t c.pred (Ptr.At c.curr) o h.0.0 (unfold PtrIn in h.0.1))"),
         ("theorems/proofs/HeldSlots", "(pointee w) o pred (links_safe st (pointee w) (pred-links b c.pred holds.0.0 plain))",
