@@ -73,10 +73,10 @@ class Watched:
         t, words, nexts, head, broken = self.t, self.words(), self.t.d[0::3], self.t.g[2], set()
         kind, value, freed = t.act(action, i, token)
         if (kind, value) == (REFUSED, 1):
-            broken.add("neverDamaged")
+            broken.add("never_damaged")
         # a free, and who was pinned before the retirement with a word that has not changed till now
         if any(self.since.get(x) for x in freed):
-            broken.add("notEarly")
+            broken.add("not_early")
         moved = {j for j, (a, b) in enumerate(zip(words, self.words())) if a != b}
         if moved:
             self.since = {x: left for x, who in self.since.items() if (left := who - moved)}
@@ -277,7 +277,7 @@ def watch(t, records, first, alone, rng=None):
         for clause in broken - seen:
             first[clause] = min(number, first.get(clause, number))
         seen |= broken
-        if "neverDamaged" in broken and not t.in_range():
+        if "never_damaged" in broken and not t.in_range():
             break
     return number
 

@@ -36,30 +36,30 @@ coded (Answer.Done v k) f a = 1 ∷ v ∷ f ++ a
 coded (Answer.Refused r) f a = 2 ∷ r ∷ f ++ a
 
 five : Access → List ℕ
-five a = Rule.kindNumber (a .kind) ∷ Rule.wordNumber (a .word) ∷ Rule.wordIndex (a .word) ∷ a .read ∷ a .stored ∷ []
+five a = Rule.kind_number a.kind ∷ Rule.word_number a.word ∷ Rule.word_index a.word ∷ a.read ∷ a.stored ∷ []
 
 nowhere : List ℕ
 nowhere = 0 ∷ 0 ∷ 0 ∷ 0 ∷ 0 ∷ []
 
 slots : ℕ → Tables.Tables → List ℕ
 slots zero t = []
-slots (suc i) t = slots i t ++ Base.branch (t .slotFree i) (0 ∷ [])
-  (1 ∷ t .shared .word i ∷ t .shared .entryNext i ∷ t .own i .counts .guards ∷ t .own i .counts .handles ∷ t .own i .counts .pins
-  ∷ t .own i .held ∷ Base.listed (t .own i .held) (t .held i))
+slots (suc i) t = slots i t ++ Base.branch (t.slot_free i) (0 ∷ [])
+  (1 ∷ t.shared.word i ∷ t.shared.entry_next i ∷ (t.own i).counts.guards ∷ (t.own i).counts.handles ∷ (t.own i).counts.pins
+  ∷ (t.own i).held ∷ Base.listed (t.own i).held (t.held i))
 
 nodes : ℕ → Tables.Tables → List ℕ
 nodes zero t = []
-nodes (suc n) t = nodes n t ++ Base.branch (t .nodeFree n) (0 ∷ [])
-  (1 ∷ t .shared .nodeNext n ∷ t .bag n .epoch ∷ t .bag n .len ∷ Base.listed (t .bag n .len) (t .bag n .deferreds))
+nodes (suc n) t = nodes n t ++ Base.branch (t.node_free n) (0 ∷ [])
+  (1 ∷ t.shared.node_next n ∷ (t.bag n).epoch ∷ (t.bag n).len ∷ Base.listed (t.bag n).len (t.bag n).deferreds)
 
 state : Tables.Tables → List ℕ
-state t = t .shared .globalEpoch ∷ t .shared .listHead ∷ t .shared .queueHead ∷ t .shared .queueTail ∷ slots 32 t ++ nodes 128 t
+state t = t.shared.global_epoch ∷ t.shared.list_head ∷ t.shared.queue_head ∷ t.shared.queue_tail ∷ slots 32 t ++ nodes 128 t
 
 go : List Ev → Tables.Tables → List (List ℕ)
 go [] t = []
-go (st m p ∷ l) t = let o : Step.Out = Step.takeMarked m 128 p t in coded (o .answer) (o .freed) (five (Step.accessAt m 128 p t)) ∷ go l (o .tables)
-go (rg ∷ l) t = let o : Step.Out = Public.enrolled (Base.least 32 (t .slotFree)) t in coded (o .answer) (o .freed) nowhere ∷ go l (o .tables)
-go (cl p c ∷ l) t = let o : Step.Out = Step.follow p (Calls.opens 32 c (Public.the p t)) t in coded (o .answer) (o .freed) nowhere ∷ go l (o .tables)
+go (st m p ∷ l) t = let o : Step.Out = Step.take_marked m 128 p t in coded o.answer o.freed (five (Step.access_at m 128 p t)) ∷ go l o.tables
+go (rg ∷ l) t = let o : Step.Out = Public.enrolled (Base.least 32 t.slot_free) t in coded o.answer o.freed nowhere ∷ go l o.tables
+go (cl p c ∷ l) t = let o : Step.Out = Step.follow p (Calls.opens 32 c (Public.the p t)) t in coded o.answer o.freed nowhere ∷ go l o.tables
 go (look ∷ l) t = state t ∷ go l t
 """
 
@@ -153,12 +153,12 @@ def prove(text):
     with tempfile.TemporaryDirectory() as work:
         root = pathlib.Path(work)
         for crate in ("epoch", "definition"):
-            shutil.copytree(CRATES / crate, root / "crates" / crate)
+            shutil.copytree(CRATES / crate, root / "crates" / crate, ignore=shutil.ignore_patterns("out"))
         (root / "crates.txt").write_text("epoch:\ndefinition: epoch\n")
         (root / "crates/definition/proofs/Recorded.antt").write_text(text)
         with open(root / "crates/definition/proofs/Lib.antt", "a") as lib:
             lib.write("pub mod Recorded\n")
-        return subprocess.run(["rt", "dev", "definition"], cwd=root, capture_output=True, text=True)
+        return subprocess.run(["rt", "check"], cwd=root / "crates/definition", capture_output=True, text=True)
 
 
 def main():
@@ -168,9 +168,9 @@ def main():
     given = options.parse_args()
     totals, unfold = {"records": 0, "accesses": 0, "marked": 0, "words": 0}, unfolded()
     found = schedules(open(given.file).read().split("\n"))
-    uses = ["mathlib.Core.Path.{_≡_, refl}", "mathlib.Core.Bool.{Bool, true, false}", "mathlib.Core.List.{List, [], _∷_, _++_}", "Prim.Native.Nat.{ℕ, zero, suc}",
-            "Rattle·definition·specs.specs.Types.{Call, Answer, Access}", "Rattle·epoch.specs.Epoch"]
-    uses += [f"Rattle·definition·specs.specs.{module}" for module in MODULES]
+    uses = ["Rattle.std.specs.Prelude.{◌≡◌, refl, Bool, true, false, List, [], ◌∷◌, ◌++◌, ℕ, zero, suc}",
+            "Rattle.definition.specs.Types.{Call, Answer, Access}", "Rattle.epoch.specs.Epoch"]
+    uses += [f"Rattle.definition.specs.{module}" for module in MODULES]
     body = [statement(k, records, given.every, totals, unfold) for k, (_, records) in enumerate(found)]
     ran = prove("\n".join("use " + u for u in uses) + SHOWS + "\n" + "\n".join(body))
     wrong = sorted({int(k) for k in re.findall(r"error: `ok(\d+)`", ran.stdout + ran.stderr)})
