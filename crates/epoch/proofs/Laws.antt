@@ -1,6 +1,7 @@
 -- The laws of epoch words, for every proof that speaks of them: a crate above cites these and leaves the definitions of
 -- specs/Epoch.antt shut. Words are any numbers; a bound stands only where a law fails without it. Assumes nothing.
-use Rattle.std.proofs.Common.{◌≡◌, ℕ, ◌+◌, ◌-◌, ◌*◌, ◌/◌, ◌%◌, ◌^◌, ◌<◌, ◌≤◌, Bool, true, false, eqb, ltb, leb, ℤ, pos, negsuc, sym, refl, ap, ◌∙◌, arith, w64, SFits, ltb-false, ltb-true, le-ltb, lt-ltb, eq-eqb, eqb-true, le-leb}
+use Rattle.std.proofs.Common.{◌≡◌, ℕ, ◌+◌, ◌-◌, ◌*◌, ◌/◌, ◌%◌, ◌^◌, ◌<◌, ◌≤◌, Bool, true, false, eqb, ltb, leb, ℤ, pos, negsuc}
+use Rattle.std.proofs.Common.{sym, refl, ap, ◌∙◌, arith, w64, SFits, ltb-false, ltb-true, le-ltb, lt-ltb, eq-eqb, eqb-true, le-leb}
 use lib.Signed.{le_z, mag}
 use borrow.Author.Tests.{lt-leb, eqb-false}
 use Rattle.epoch.specs.Epoch.{starting, is_pinned, unpinned, pinned, successor, gap, signed, halved, wrapping_sub}

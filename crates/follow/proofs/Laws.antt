@@ -129,6 +129,8 @@ module _ (N M p k : ℕ) (l : Lent) (s : Sized N M l) (hp : p < N) where
         let same : tables_of N M done ≡ settle p a.work (tables_of N M l) = settled N M p k l s hp held a.work f in
         let total : get_or done.globals 4 0 ≡ (tables_of N M l).aside = sym (total_of N M done) ∙ ap (λ (t : Tables). t.aside) same ∙ settle-aside p a.work (tables_of N M l) in
         let own : ((tables_of N M l).own p).share ≡ share = rw (own_of N M l p) shares in
-        aside-tables N M (stored_lent done p (record_of a.participant)) (get_or done.globals 4 0 - share + a.participant.share) (rw size.globals (omega arith))
-        ∙ ap (T.with_aside (get_or done.globals 4 0 - share + a.participant.share)) (stored_tables N M done p (record_of a.participant) (rw s.participants (omega arith)) ∙ ap (T.with_own p (record_of a.participant)) same)
-        ∙ ap (λ (v : ℕ). T.with_aside v (T.with_own p (record_of a.participant) (settle p a.work (tables_of N M l)))) (rw (total, own) refl)
+        let record' = record_of a.participant in
+        let aside = get_or done.globals 4 0 - share + a.participant.share in
+        aside-tables N M (stored_lent done p record') aside (rw size.globals (omega arith))
+        ∙ ap (T.with_aside aside) (stored_tables N M done p record' (rw s.participants (omega arith)) ∙ ap (T.with_own p record') same)
+        ∙ ap (λ (v : ℕ). T.with_aside v (T.with_own p record' (settle p a.work (tables_of N M l)))) (rw (total, own) refl)

@@ -12,7 +12,8 @@ use Rattle.definition.specs.Base.{branch, least}
 use Rattle.definition.specs.Bags.{max_objects}
 use Rattle.definition.specs.Calls.{opens}
 use Rattle.definition.specs.Layout.{Lent, lent, sized, tables_of, lent_of}
-use Rattle.definition.specs.Public.{Check, refusal, unless, refused, Outcome, outcome, kept, given, lending, register_checks, call_checks, step_checks, the, enrolled, register, call, step, start_lent, register_lent, call_lent, step_lent}
+use Rattle.definition.specs.Public.{Check, refusal, unless, refused, Outcome, outcome, kept, given, lending, register_checks, call_checks, step_checks}
+use Rattle.definition.specs.Public.{the, enrolled, register, call, step, start_lent, register_lent, call_lent, step_lent}
 use Rattle.definition.specs.Ranges.{within_limits, fresh}
 use Rattle.definition.specs.Rule.{asks, fails}
 use Rattle.definition.specs.Step.{Out, answer_of, follow, rule_at, take_step, take_marked}

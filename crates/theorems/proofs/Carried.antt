@@ -13,7 +13,7 @@ use Rattle.definition.specs.Internal.{pin_epoch, pin_word, pin_counted, unpin_wo
 use Rattle.definition.proofs.Base.{branch_ind}
 use Rattle.theorems.proofs.Leads.{Leads}
 use Rattle.theorems.proofs.Invariant.{Of, walk_epoch, pop_epoch, store_epoch}
-use Rattle.theorems.proofs.Types.{Epoch, Node, Ptr, Pred, Owner, Try, Deferring, Then, RegisterAt, RepinAt, WalkAt, PopAt, PushAt, Place, Participant, Work, After}
+use Rattle.theorems.proofs.Types.{Epoch, Node, Ptr, Pred, Cursor, Owner, Try, Pops, Deferring, Then, RegisterAt, RepinAt, WalkAt, PopAt, PushAt, Place, Participant, Work, After}
 
 -- where the epochs come from, for a property P of a walk's, Q of a pop's and R of a stored one
 pub record Sources (P Q R : ℕ → Type 0) (pl : Place) (s : Shared) : Type 0 where
@@ -97,6 +97,23 @@ module _ (P Q R : ℕ → Type 0) where
   pushed_carries Then.Flush x o h = on_carries (Place.AdvanceEpoch Owner.Flush) o (record { walks = tt; pops = tt; stores = tt })
   pushed_carries Then.Finalize x o h = on_carries Place.FinalWord _ (record { walks = tt; pops = tt; stores = tt })
 
+  -- a walk or a pop that goes on carries its epoch on; so does what it retires
+  walk_on : (t : Try) (x : WalkAt) (o : Participant) → P t.epoch.0 → CarriedAfter (on (Place.Walk t x) o)
+  unfolding Of walk_epoch pop_epoch store_epoch
+  walk_on t x o h = on_carries (Place.Walk t x) o (record { walks = h; pops = tt; stores = tt })
+
+  pop_on : (q : Pops) (x : PopAt) (o : Participant) → Q q.epoch.0 → CarriedAfter (on (Place.Pop q x) o)
+  unfolding Of walk_epoch pop_epoch store_epoch
+  pop_on q x o h = on_carries (Place.Pop q x) o (record { walks = tt; pops = h; stores = tt })
+
+  slot_carries : (t : Try) (c : Cursor) (succ : Ptr) (o : Participant) → P t.epoch.0 → CarriedAfter (defer (Deferring.Slot t c succ) o)
+  unfolding Of walk_epoch pop_epoch store_epoch
+  slot_carries t c succ o h = defer_carries (Deferring.Slot t c succ) o (record { walks = h; pops = tt; stores = tt })
+
+  node_carries : (q : Pops) (head next : Node) (o : Participant) → Q q.epoch.0 → CarriedAfter (defer (Deferring.Node q head next) o)
+  unfolding Of walk_epoch pop_epoch store_epoch
+  node_carries q head next o h = defer_carries (Deferring.Node q head next) o (record { walks = tt; pops = h; stores = tt })
+
   abbrev CarriesQ : Bool → Shared → After → Type 0
   CarriesQ won s a = CarriedAfter a
 
@@ -115,16 +132,19 @@ module _ (P Q R : ℕ → Type 0) where
   carries p spare sealed o s Place.UnpinWord src h = pick_carries _ _ _ (finalize_carries o) (done_carries 0 o)
   carries p spare sealed o s (Place.AdvanceEpoch k) src h = on_carries _ o (record { walks = src.tries k refl; pops = tt; stores = tt })
   carries p spare sealed o s (Place.Walk t WalkAt.Head) src h = walk_carries t Pred.Head _ o h.walks
-  carries p spare sealed o s (Place.Walk t (WalkAt.Next c)) src h = pick_carries _ _ _ (on_carries _ o (record { walks = h.walks; pops = tt; stores = tt })) (on_carries _ o (record { walks = h.walks; pops = tt; stores = tt }))
-  carries p spare sealed o s (Place.Walk t (WalkAt.Unlink c succ)) src h = (λ _. defer_carries (Deferring.Slot t c succ) o (record { walks = h.walks; pops = tt; stores = tt }), λ _. pick_carries _ _ _ (on_carries _ o (record { walks = h.walks; pops = tt; stores = tt })) (walk_carries t c.pred _ o h.walks))
+  carries p spare sealed o s (Place.Walk t (WalkAt.Next c)) src h =
+      pick_carries _ _ _ (walk_on t _ o h.walks) (on_carries _ o (record { walks = h.walks; pops = tt; stores = tt }))
+  carries p spare sealed o s (Place.Walk t (WalkAt.Unlink c succ)) src h =
+      (λ _. slot_carries t c succ o h.walks, λ _. pick_carries _ _ _ (walk_on t _ o h.walks) (walk_carries t c.pred _ o h.walks))
   carries p spare sealed o s (Place.Walk t WalkAt.Stalled) src h = advanced_carries t.owner t.epoch o (src.ends _ h.walks)
   carries p spare sealed o s (Place.AdvanceWord t curr succ) src h = pick_carries _ _ _ (advanced_carries t.owner t.epoch o (src.ends _ h.walks)) (walk_carries t (Pred.Entry curr) succ o h.walks)
   carries p spare sealed o s (Place.AdvanceStore t) src h = advanced_carries t.owner _ o (src.stores t refl)
-  carries p spare sealed o s (Place.Pop q PopAt.Head) src h = on_carries _ o (record { walks = tt; pops = h.pops; stores = tt })
-  carries p spare sealed o s (Place.Pop q (PopAt.Next head)) src h = pick_carries _ _ _ (collected_carries q.owner o) (pick_carries _ _ _ (on_carries _ o (record { walks = tt; pops = h.pops; stores = tt })) (collected_carries q.owner o))
-  carries p spare sealed o s (Place.Pop q (PopAt.Exchange head next)) src h = (λ _. on_carries _ o (record { walks = tt; pops = h.pops; stores = tt }), λ _. on_carries _ o (record { walks = tt; pops = h.pops; stores = tt }))
-  carries p spare sealed o s (Place.Pop q (PopAt.Tail head next)) src h = pick_carries _ _ _ (on_carries _ o (record { walks = tt; pops = h.pops; stores = tt })) (defer_carries (Deferring.Node q head next) o (record { walks = tt; pops = h.pops; stores = tt }))
-  carries p spare sealed o s (Place.Pop q (PopAt.TailMove head next)) src h = (λ _. defer_carries (Deferring.Node q head next) o (record { walks = tt; pops = h.pops; stores = tt }), λ _. defer_carries (Deferring.Node q head next) o (record { walks = tt; pops = h.pops; stores = tt }))
+  carries p spare sealed o s (Place.Pop q PopAt.Head) src h = pop_on q _ o h.pops
+  carries p spare sealed o s (Place.Pop q (PopAt.Next head)) src h =
+      pick_carries _ _ _ (collected_carries q.owner o) (pick_carries _ _ _ (pop_on q _ o h.pops) (collected_carries q.owner o))
+  carries p spare sealed o s (Place.Pop q (PopAt.Exchange head next)) src h = (λ _. pop_on q _ o h.pops, λ _. pop_on q _ o h.pops)
+  carries p spare sealed o s (Place.Pop q (PopAt.Tail head next)) src h = pick_carries _ _ _ (pop_on q _ o h.pops) (node_carries q head next o h.pops)
+  carries p spare sealed o s (Place.Pop q (PopAt.TailMove head next)) src h = (λ _. node_carries q head next o h.pops, λ _. node_carries q head next o h.pops)
   carries p spare sealed o s (Place.Push f PushAt.Epoch) src h = also_carries _ _ (on_carries (Place.Push f (PushAt.Tail spare)) _ (moves_on f PushAt.Epoch (PushAt.Tail spare) h))
   carries p spare sealed o s (Place.Push f (PushAt.Tail new)) src h = on_carries _ o (moves_on f (PushAt.Tail new) _ h)
   carries p spare sealed o s (Place.Push f (PushAt.Next new onto)) src h = pick_carries _ _ _ (on_carries _ o (moves_on f (PushAt.Next new onto) _ h)) (on_carries _ o (moves_on f (PushAt.Next new onto) _ h))

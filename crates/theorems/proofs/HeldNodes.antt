@@ -33,7 +33,8 @@ use Rattle.theorems.proofs.Inv.{Inv, Steps, Calls, Registers, rule_of, left_of, 
 use Rattle.theorems.proofs.Linked.{under-pin, followed_own, step-change, stepped_own}
 use Rattle.theorems.proofs.Queue.{Lined, spare≢placed, link-index, goes_to}
 use Rattle.theorems.proofs.Nodes.{Onward, lined, next_inside, head_in, tail_in, onward-step, step_wrote, onward-call, onward-register}
-use Rattle.theorems.proofs.QueuePlaces.{NodesThen, NodesAt, then_of_lem, in_queue?, by_queue, BareThen, BareAt, bare-nodes, out_bare, queue-under-pin, Bare, collected-bare, placed-bare, defer-bare, bare-after, bare-begins}
+use Rattle.theorems.proofs.QueuePlaces.{NodesThen, NodesAt, then_of_lem, in_queue?, by_queue, BareThen, BareAt, bare-nodes, out_bare, queue-under-pin}
+use Rattle.theorems.proofs.QueuePlaces.{Bare, collected-bare, placed-bare, defer-bare, bare-after, bare-begins}
 use Rattle.theorems.proofs.Types.{Node, Pred, Pops, Deferring, Then, RepinAt, PopAt, PushAt, Place, Participant, After, Call}
 
 -- ---- what is held stays held

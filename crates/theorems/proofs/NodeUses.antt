@@ -27,7 +27,8 @@ use Rattle.theorems.proofs.Safety.{sum_at, node_use_unfreed}
 use Rattle.theorems.proofs.Linked.{step-change}
 use Rattle.theorems.proofs.Moves.{Bare, Deferred, Kind}
 use Rattle.theorems.proofs.Queue.{taken≢placed, spare≢taken, apart, freed_ind, goes_to}
-use Rattle.theorems.proofs.Nodes.{Turned, Onward, Sound, lined, head_in, freed_out, free_spare, null_is, none_of, worked_next, kind_of, step-sound, step_turned, onward-step, step_head, call_of, call-sound, still, onward-call, call_head}
+use Rattle.theorems.proofs.Nodes.{Turned, Onward, Sound, lined, head_in, freed_out, free_spare, null_is, none_of, worked_next}
+use Rattle.theorems.proofs.Nodes.{kind_of, step-sound, step_turned, onward-step, step_head, call_of, call-sound, still, onward-call, call_head}
 use Rattle.theorems.proofs.QueuePlaces.{in_queue?}
 use Rattle.theorems.proofs.HeldNodes.{queue-pinned, place_mine, place_other, call-place_mine, call-place_other}
 use Rattle.theorems.proofs.Types.{Epoch, Node, Item, Pops, Deferring, PopAt, PushAt, Place, Participant, Work, Call}
@@ -338,9 +339,14 @@ module _ (N M p : ℕ) (c : Call) (m : Machine) (g : Ghost) (inv : Inv N M m g) 
   -- the old head of each
   pub old_call : (q : ℕ) → q < N
       → Of (λ n. ((called_ghost N p c m g).node_use n ≡ NodeUse.placed) × ((called_ghost N p c m g).pos n < (called_ghost N p c m g).pos (head_of (called N p c m).shared))) (old_head ((called N p c m).own q).place)
-  old_call q hq = same? p q
-      (λ e. rw (← e, call-place_mine N M p c m g inv ca) (own_old N M m (called N p c m) g (called_ghost N p c m g) inv (onward-call N M p c m g inv ca) p ca.here _ m.shared (m.own p).place _ _ _ _ (call_of N M p c m g inv ca) refl (call_head N M p c m g inv ca)))
-      (λ ne. rw (call-place_other N M p c m g inv ca q ne) (old_stays N M m (called N p c m) g (called_ghost N p c m g) inv (onward-call N M p c m g inv ca) q hq))
+  old_call q hq =
+      let onward = onward-call N M p c m g inv ca in
+      let kind = call_of N M p c m g inv ca in
+      let head = call_head N M p c m g inv ca in
+      same? p q
+      (λ e. rw (← e, call-place_mine N M p c m g inv ca)
+      (own_old N M m (called N p c m) g (called_ghost N p c m g) inv onward p ca.here _ m.shared (m.own p).place _ _ _ _ kind refl head))
+      (λ ne. rw (call-place_other N M p c m g inv ca q ne) (old_stays N M m (called N p c m) g (called_ghost N p c m g) inv onward q hq))
 
 module _ (N M p : ℕ) (m : Machine) (g : Ghost) (inv : Inv N M m g) (re : Registers N p m) where
   -- the bit of each node

@@ -354,20 +354,31 @@ module _ (N w : ℕ) where
     room_step M p spare sealed o s (Place.AdvanceEpoch k) i e h = search rooms
     room_step M p spare sealed o s (Place.Walk t WalkAt.Head) i e h = search rooms
     room_step M p spare sealed o s (Place.Walk t (WalkAt.Next c)) i e h = search rooms
-    room_step M p spare sealed o s (Place.Walk t (WalkAt.Unlink c succ)) i e h = (λ _ y. defer_room (Deferring.Slot t c succ) o (h.0, y refl), λ _ _. pick_room _ _ _ (on_room (Place.Walk t WalkAt.Stalled) o h) (walk_room t c.pred _ o h))
+    room_step M p spare sealed o s (Place.Walk t (WalkAt.Unlink c succ)) i e h = (
+      λ _ y. defer_room (Deferring.Slot t c succ) o (h.0, y refl),
+      λ _ _. pick_room _ _ _ (on_room (Place.Walk t WalkAt.Stalled) o h) (walk_room t c.pred _ o h),
+    )
     room_step M p spare sealed o s (Place.Walk t WalkAt.Stalled) i e h = search rooms
     room_step M p spare sealed o s (Place.AdvanceWord t curr succ) i e h = search rooms
     room_step M p spare sealed o s (Place.AdvanceStore t) i e h = search rooms
     room_step M p spare sealed o s (Place.Pop q PopAt.Head) i e h = search rooms
-    room_step M p spare sealed o s (Place.Pop q (PopAt.Next head)) i e h = λ _. pick_room _ _ _ (collected_room q.owner o h.0) (pick_room _ _ _ (on_room (Place.Pop q (PopAt.Exchange head _)) o h) (collected_room q.owner o h.0))
+    room_step M p spare sealed o s (Place.Pop q (PopAt.Next head)) i e h = λ _.
+        let over = collected_room q.owner o h.0 in
+        pick_room _ _ _ over (pick_room _ _ _ (on_room (Place.Pop q (PopAt.Exchange head _)) o h) over)
     room_step M p spare sealed o s (Place.Pop q (PopAt.Exchange head next)) i e h = search rooms
     room_step M p spare sealed o s (Place.Pop q (PopAt.Tail head next)) i e h = λ _. pick_room _ _ _ (on_room (Place.Pop q (PopAt.TailMove head next)) o h) (defer_room (Deferring.Node q head next) o (i.0.0, h))
     room_step M p spare sealed o s (Place.Pop q (PopAt.TailMove head next)) i e h = (λ _ _. defer_room (Deferring.Node q head next) o (i.0.0, h), λ _ _. defer_room (Deferring.Node q head next) o (i.0.0, h))
     room_step M p spare sealed o s (Place.Push f PushAt.Epoch) i e h = λ _. seal_room M spare f _ o e i.0 h.0 h.1
     room_step M p spare sealed o s (Place.Push f (PushAt.Tail new)) i e h = λ _. on_room (Place.Push f (PushAt.Next new _)) o (push_on f (PushAt.Tail new) _ _ _ h.0, tt)
-    room_step M p spare sealed o s (Place.Push f (PushAt.Next new onto)) i e h = λ _. pick_room _ _ _ (on_room (Place.Push f (PushAt.Link new onto)) o (push_on f (PushAt.Next new onto) _ _ _ h.0, tt)) (on_room (Place.Push f (PushAt.Help new onto _)) o (push_on f (PushAt.Next new onto) _ _ _ h.0, tt))
-    room_step M p spare sealed o s (Place.Push f (PushAt.Help new onto next)) i e h = (λ _ _. on_room (Place.Push f (PushAt.Tail new)) o (push_on f (PushAt.Help new onto next) _ _ _ h.0, tt), λ _ _. on_room (Place.Push f (PushAt.Tail new)) o (push_on f (PushAt.Help new onto next) _ _ _ h.0, tt))
-    room_step M p spare sealed o s (Place.Push f (PushAt.Link new onto)) i e h = (λ _ _. on_room (Place.Push f (PushAt.Move new onto)) o (push_on f (PushAt.Link new onto) _ _ _ h.0, tt), λ _ _. on_room (Place.Push f (PushAt.Tail new)) o (push_on f (PushAt.Link new onto) _ _ _ h.0, tt))
+    room_step M p spare sealed o s (Place.Push f (PushAt.Next new onto)) i e h = λ _.
+        let at : (b : PushAt) → RoomThen N o.held o.share w b f = λ b. push_on f (PushAt.Next new onto) b _ _ h.0 in
+        pick_room _ _ _ (on_room (Place.Push f (PushAt.Link new onto)) o (at _, tt)) (on_room (Place.Push f (PushAt.Help new onto _)) o (at _, tt))
+    room_step M p spare sealed o s (Place.Push f (PushAt.Help new onto next)) i e h =
+        let again = on_room (Place.Push f (PushAt.Tail new)) o (push_on f (PushAt.Help new onto next) (PushAt.Tail new) _ _ h.0, tt) in
+        (λ _ _. again, λ _ _. again)
+    room_step M p spare sealed o s (Place.Push f (PushAt.Link new onto)) i e h =
+        let at : (b : PushAt) → RoomThen N o.held o.share w b f = λ b. push_on f (PushAt.Link new onto) b _ _ h.0 in
+        (λ _ _. on_room (Place.Push f (PushAt.Move new onto)) o (at _, tt), λ _ _. on_room (Place.Push f (PushAt.Tail new)) o (at _, tt))
     room_step M p spare sealed o s (Place.Push f (PushAt.Move new onto)) i e h = (λ _ _. pushed_room M f (PushAt.Move new onto) o e i.0 h.0, λ _ _. pushed_room M f (PushAt.Move new onto) o e i.0 h.0)
     room_step M p spare sealed o s Place.FinalWord i e h = search rooms
     room_step M p spare sealed o s Place.FinalTag i e h = search rooms

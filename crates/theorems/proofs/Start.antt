@@ -19,7 +19,9 @@ use Rattle.definition.proofs.Codec.{place_back, index-link}
 use Rattle.definition.proofs.Within.{PlaceIn}
 use Rattle.theorems.proofs.Machine.{Machine, view}
 use Rattle.theorems.proofs.Ghost.{Use, NodeUse, Ghost, num, G, head_of}
-use Rattle.theorems.proofs.Invariant.{Of, walk_epoch, pop_epoch, store_epoch, taken_node, old_head, waiting_item, RepinPins, Fine, is_unused, Records, Pinned, Epochs, Born, ToLinked, OwnNext, Listed, Queued, HoldsAt, Held, waits, is, has, times, occurs, not_out, in_queue, is_spare, Used, Each, Bagged, Room, Roomy}
+use Rattle.theorems.proofs.Invariant.{Of, walk_epoch, pop_epoch, store_epoch, taken_node, old_head, waiting_item, RepinPins, Fine, is_unused}
+use Rattle.theorems.proofs.Invariant.{Records, Pinned, Epochs, Born, ToLinked, OwnNext, Listed, Queued, HoldsAt, Held}
+use Rattle.theorems.proofs.Invariant.{waits, is, has, times, occurs, not_out, in_queue, is_spare, Used, Each, Bagged, Room, Roomy}
 use Rattle.theorems.proofs.Inv.{Ranged, Inv}
 use Rattle.theorems.proofs.Nodes.{null_is}
 use Rattle.theorems.proofs.Types.{Item, Place, Participant}

@@ -347,7 +347,8 @@ nodes-taken x n a h f u t le = same? n x
     here e le = rw (← e, put_same f n false, put_same u n NodeUse.taken, t, is_same n n refl) (only_free (in_queue (u n) a h) a h le)
 
 -- any work
-nodes_worked : (x p a h M : ℕ) (s : Shared) (w : Work) (m : Machine) (u : Tab NodeUse) → Fit M m.node_free m.bag w → bit (m.node_free x) + in_queue (u x) a h + times (Item.Node (record { 0 = x })) (freed_items w m.bag) ≤ 1
+nodes_worked : (x p a h M : ℕ) (s : Shared) (w : Work) (m : Machine) (u : Tab NodeUse) → Fit M m.node_free m.bag w
+    → bit (m.node_free x) + in_queue (u x) a h + times (Item.Node (record { 0 = x })) (freed_items w m.bag) ≤ 1
     → bit ((works p w (with_shared s m)).node_free x) + in_queue (node_worked w m u x) a h + is x (seal_of w)
     ≡ bit (m.node_free x) + in_queue (u x) a h + times (Item.Node (record { 0 = x })) (freed_items w m.bag)
 unfolding works node_worked seal_of freed_items times is Fit

@@ -9,10 +9,12 @@ use Rattle.player.proofs.act_all.Given as goal
 
 abbrev pub invariant-loop-at : goal.invariant-loop-at
 invariant-loop-at l =
+    let first = l.initial in
+    let begun = lent first.globals first.participants first.nodes first.held first.queued in
     (l.at ≤ length l.bytes) × (l.at < length l.bytes → l.at ≡ 8 * (l.at / 8))
-    × (reached_as (lent l.globals l.participants l.nodes l.held l.queued) l.freed ≡ reached l.n l.m l.bytes (lent l.initial.globals l.initial.participants l.initial.nodes l.initial.held l.initial.queued) l.initial.freed ((l.at + 7) / 8))
-    × (length l.globals ≡ length l.initial.globals) × (length l.participants ≡ length l.initial.participants) × (length l.nodes ≡ length l.initial.nodes)
-    × (length l.held ≡ length l.initial.held) × (length l.queued ≡ length l.initial.queued) × (length l.freed ≡ length l.initial.freed)
+    × (reached_as (lent l.globals l.participants l.nodes l.held l.queued) l.freed ≡ reached l.n l.m l.bytes begun first.freed ((l.at + 7) / 8))
+    × (length l.globals ≡ length first.globals) × (length l.participants ≡ length first.participants) × (length l.nodes ≡ length first.nodes)
+    × (length l.held ≡ length first.held) × (length l.queued ≡ length first.queued) × (length l.freed ≡ length first.freed)
 
 abbrev pub decreases-loop-at : goal.decreases-loop-at
 decreases-loop-at l =
