@@ -107,10 +107,8 @@ CHANGES = [
     Change("help-same-node", "a push that helped goes on with the same node, not from the tail", ("alone",), [
         ("specs/Queue", "(link onto.0) (link next.0)\n    (on (Place.Push then (PushAt.Tail new)) o)\n    (λ w. on (Place.Push then (PushAt.Tail new)) o)",
          "(link onto.0) (link next.0)\n    (on (Place.Push then (PushAt.Next new onto)) o)\n    (λ w. on (Place.Push then (PushAt.Next new onto)) o)"),
-        ("theorems/proofs/Room", "(λ _ _. on_room (Place.Push f (PushAt.Tail new)) o (push_on f (PushAt.Help new onto next) _ _ _ h.0, tt),"
-         " λ _ _. on_room (Place.Push f (PushAt.Tail new)) o (push_on f (PushAt.Help",
-         "(λ _ _. on_room (Place.Push f (PushAt.Next new onto)) o (push_on f (PushAt.Help new onto next) _ _ _ h.0, tt),"
-         " λ _ _. on_room (Place.Push f (PushAt.Next new onto)) o (push_on f (PushAt.Help"),
+        ("theorems/proofs/Room", "let again = on_room (Place.Push f (PushAt.Tail new)) o (push_on f (PushAt.Help new onto next) (PushAt.Tail new) _ _ h.0, tt)",
+         "let again = on_room (Place.Push f (PushAt.Next new onto)) o (push_on f (PushAt.Help new onto next) (PushAt.Next new onto) _ _ h.0, tt)"),
         ("theorems/proofs/Walks", "pushes f (PushAt.Help new onto next) (PushAt.Tail new) o h,\n        λ _. pushes f (PushAt.Help new onto next) (PushAt.Tail new) o h,",
          "pushes f (PushAt.Help new onto next) (PushAt.Next new onto) o h,\n        λ _. pushes f (PushAt.Help new onto next) (PushAt.Next new onto) o h,"),
         ("theorems/proofs/HeldNodes", "use lib.Dec.{eqb}", "use lib.Dec.{eqb, leb}"),
