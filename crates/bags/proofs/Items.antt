@@ -1,7 +1,7 @@
 -- Items: an item and its word are the same thing said twice; what is in range; whether a bag has a token; what a list of items frees, bag after bag.
 -- Assumes nothing.
-use mathlib.Core.Path.{◌≡◌, refl, sym, ◌∙◌}
-use mathlib.Core.Bool.{Bool, true, false, ◌&&◌}
+use mathlib.Core.Path.{◌≡◌, refl, ◌∙◌}
+use mathlib.Core.Bool.{Bool, true, false}
 use mathlib.Core.List.{List, [], ◌∷◌, ◌++◌}
 use Prim.Native.Nat.{ℕ, zero, suc, ◌+◌, ◌*◌, ◌/◌, ◌%◌, ◌^◌, ◌≤◌, ◌<◌}
 use native.Mathlib.Omega.{arith}
@@ -15,7 +15,7 @@ use Rattle.definition.specs.declared.Slot.{Slot}
 use Rattle.definition.specs.declared.Node.{Node}
 use Rattle.definition.specs.declared.Item.{Item}
 use Rattle.definition.proofs.Base.{branch_ind, both}
-use Rattle.definition.proofs.Held.{tokens_append, held_more, held_some}
+use Rattle.definition.proofs.Held.{tokens_append}
 use Rattle.bags.specs.Bags.{filled, free_item, free_items, item_value}
 
 -- ---- words
@@ -59,7 +59,7 @@ unfolding items listed
 items_same zero c d h = refl
 items_same (suc k) c d h = rw (items_same k c d (λ j l. h j (omega arith)), h k (omega arith))
 
--- ---- a token looked for, place by place
+-- ---- a token looked for
 
 -- a test is what it chooses between
 test_is : (b : Bool) → b ≡ branch b true false
@@ -67,28 +67,17 @@ unfolding branch
 test_is true = refl
 test_is false = refl
 
--- a word is a token by its kind, and this one by its number
-pub token_word : (x w : ℕ) → (eqb (w % 4) 1 && eqb x (w / 4)) ≡ among x (tokens (item_of w ∷ []))
-unfolding item_of tokens among
-token_word x w =
-    branch_ind (λ (i : Item). test ≡ among x (tokens (i ∷ []))) (eqb (w % 4) 1) (λ e. rw e (test_is (eqb x (w / 4))))
-    (λ e. branch_ind (λ (i : Item). test ≡ among x (tokens (i ∷ []))) (eqb (w % 4) 2) (λ _. rw e refl) (λ _. rw e refl))
-  where
-    test : Bool
-    test = eqb (w % 4) 1 && eqb x (w / 4)
+-- a token is told by its number
+pub token_test : (x t : ℕ) (i : Item) → i ≡ Item.Token t → eqb x t ≡ among x (tokens (i ∷ []))
+unfolding tokens among
+token_test x t i e = rw e (test_is (eqb x t))
 
-module _ (x : ℕ) (d : Tab ℕ) where
-  -- the item at place j is the token, so the token is among k items
-  pub found_there : (k j : ℕ) (b : Bool) → j < k → b ≡ among x (tokens (item_of (d j) ∷ [])) → b ≡ true → true ≡ among x (tokens (items k d))
-  found_there k j b lt is h = sym (held_some x d k j lt (sym is ∙ h))
-
-  -- it is not, and none before it was
-  pub found_not : (j : ℕ) (b : Bool) → among x (tokens (items j d)) ≡ false → b ≡ among x (tokens (item_of (d j) ∷ [])) → b ≡ false
-      → among x (tokens (items (j + 1) d)) ≡ false
-  unfolding branch
-  found_not j b none is h =
-      let e : j + 1 ≡ suc j = omega arith in
-      rw e (held_more x d j ∙ rw (none, ← is, h))
+-- and what is no token is not this one
+pub token_none : (x : ℕ) (i : Item) → ((t : ℕ) → i ≡ Item.Token t → ⊥) → false ≡ among x (tokens (i ∷ []))
+unfolding tokens among
+token_none x (Item.Token t) h = absurd (h t refl)
+token_none x (Item.Node n) h = refl
+token_none x (Item.Slot s) h = refl
 
 -- ---- lists of items
 

@@ -1,27 +1,46 @@
 -- What a turn of each loop does to what its function promises. Assumes nothing.
 use mathlib.Core.Path.{◌≡◌, refl, sym, ap, ◌∙◌}
+use mathlib.Core.Bool.{Bool, true, false, ◌||◌}
 use mathlib.Core.List.{List, [], ◌∷◌, ◌++◌, append-nil}
-use Prim.Native.Nat.{ℕ, suc, ◌+◌, ◌≤◌, ◌<◌}
+use Prim.Native.Nat.{ℕ, zero, suc, ◌+◌, ◌-◌, ◌≤◌, ◌<◌}
 use native.Mathlib.Numerals.{add-one}
 use native.Mathlib.Omega.{arith}
-use lib.ListN.{length, get_or, set, drop, length-append, length-drop}
-use lib.Seq.{drop-cons, get_or-drop, set-append_seam, append_snoc, sets, paste, paste-suc}
-use Rattle.definition.specs.Base.{Tab, listed}
+use lib.ListN.{length, get_or, set, take, drop, length-append, length-drop}
+use lib.Seq.{drop-cons, get_or-drop, set-append_seam, append_snoc, sets}
+use Rattle.std.specs.List.{list_any}
+use Rattle.std.proofs.lemmas.List.Folds.{list_any_more}
+use Rattle.definition.specs.Base.{branch, Tab, listed, among}
 use Rattle.definition.specs.Bags.{item_of, items, tokens}
 use Rattle.definition.specs.declared.Item.{Item}
-use Rattle.definition.proofs.Held.{tokens_append}
-use Rattle.bags.specs.Bags.{filled, free_item, free_items}
+use Rattle.definition.proofs.Base.{all_at}
+use Rattle.definition.proofs.Held.{tokens_append, held_none, held_more}
+use Rattle.bits.specs.Bits.{words_at}
+use Rattle.bags.specs.Bags.{filled, free_item, free_items, has_bit, have_bits}
 use Rattle.bags.proofs.Freeing.{length-free_items}
 use Rattle.bags.proofs.Items.{free_items_append, tokens_few, length-filled}
 
--- `move_items`: one more word is copied
-pub copied_more : (s d : List ℕ) (from to k : ℕ) → to + k < length d → from + k < length s
-    → set (paste d to (drop from s) k) (to + k) (get_or s (from + k) 0) ≡ paste d to (drop from s) (k + 1)
-copied_more s d from to k p q =
-    let r : k < length (drop from s) = simp length-drop (omega arith) in
-    ap (set (paste d to (drop from s) k) (to + k)) (sym (get_or-drop from s k 0))
-    ∙ paste-suc d to (drop from s) k 0 p r
-    ∙ ap (paste d to (drop from s)) (sym (add-one k))
+-- one or the other, as a choice
+or_branch : (a b : Bool) → (a || b) ≡ branch a true b
+unfolding branch
+or_branch true b = refl
+or_branch false b = refl
+
+-- `holds_token`: whether the token is among the first m of k items
+held_any : (x : ℕ) (h : List ℕ) (at k : ℕ) → at + k ≤ length h → (m : ℕ) → m ≤ k
+    → list_any (λ w. among x (tokens (item_of w ∷ []))) (take m (drop at h)) ≡ among x (tokens (items m (words_at h at)))
+held_any x h at k le zero l = sym (held_none x (words_at h at))
+held_any x h at k le (suc m) l =
+    let one : ℕ → Bool = λ w. among x (tokens (item_of w ∷ [])) in
+    let long : m < length (drop at h) = simp length-drop (omega arith) in
+    ap (λ (n : ℕ). list_any one (take n (drop at h))) (sym (add-one m)) ∙ list_any_more one (drop at h) m 0 long
+    ∙ rw (held_any x h at k le m (omega arith), get_or-drop) (or_branch (among x (tokens (items m (words_at h at)))) (one (get_or h (at + m) 0)))
+    ∙ sym (held_more x (words_at h at) m)
+
+pub held_all : (x : ℕ) (h : List ℕ) (at k : ℕ) → at + k ≤ length h
+    → list_any (λ w. among x (tokens (item_of w ∷ []))) (take (at + k - at) (drop at h)) ≡ among x (tokens (items k (words_at h at)))
+held_all x h at k le =
+    let e : at + k - at ≡ k = omega arith in
+    rw e (held_any x h at k le k (omega arith))
 
 -- ---- `free_items`: one more item is freed
 
@@ -82,3 +101,19 @@ module _ {N : ℕ} {d : Tab ℕ} {g₀ f₀ g f : List ℕ} {t j : ℕ} (h : Fre
         front = ef.1
             ∙ rw (h.front, h.count) (filled_more ts f₀ item (omega (arith, tokens_few j d)) ∙ ap (λ (r : List ℕ). filled r f₀) (sym out));
       }
+
+  -- its bit has a word in the list
+  pub freed-has_bit : (k : ℕ) (item : Item) → have_bits N (length g₀) k d ≡ true → j < k → item ≡ item_of (d j) → has_bit N (length g) item ≡ true
+  freed-has_bit k item has l e =
+      let all : Tab Bool = λ j. has_bit N (length g₀) (item_of (d j)) in
+      rw (freed-bits-length, e) (all_at k all j has l)
+
+  -- as the loop does it: a token
+  pub freed_token : (x : ℕ) → j < length f₀ → Item.Token x ≡ item_of (d j) → Freed N d g₀ f₀ g (set f t x) (t + 1) (j + 1)
+  unfolding free_item tokens
+  freed_token x l e = freed_more (Item.Token x) g (set f t x) (t + 1) l e refl (refl, refl)
+
+  -- and an item that is none
+  pub freed_index : (item : Item) (g' : List ℕ) → tokens (item ∷ []) ≡ [] → j < length f₀ → item ≡ item_of (d j) → g' ≡ free_item N item g
+      → Freed N d g₀ f₀ g' f t (j + 1)
+  freed_index item g' none l e eg = freed_more item g' f t l e eg (rw none (omega arith, refl))

@@ -8,35 +8,31 @@
 
 ghost use Rattle.std.specs.Prelude.{◌≡◌, true, [], ◌∷◌, ◌+◌, ◌*◌, ◌^◌, ◌≤◌, ◌<◌, length, set, drop};
 ghost use Rattle.std.proofs.Math.Seq.{paste};
-ghost use Rattle.std.proofs.lemmas.List.Edits.{sets};
 ghost use Rattle.definition.specs.Base.{among};
 ghost use Rattle.definition.specs.Bags.{places_left, item_word, item_of, items, tokens};
 ghost use Rattle.bits.specs.Bits.{words_at};
-ghost use Rattle.bags.specs.Bags.{stamped, bag_len, bag_items, filled, free_item, free_items, has_bit, have_bits};
+ghost use Rattle.bags.specs.Bags.{stamped, bag_len, bag_items, filled, free_items, have_bits};
 
 use definition::{Item, Node, Slot};
 use epoch::Epoch;
 use flow::Bag;
-
-// A bag has a row of this many words for its items.
-const ROW: usize = Bag::MAX_OBJECTS as usize;
-
-// Words of a node's row: its next, the seal, the length of its bag.
-const NODE_ROW: usize = 3;
+use lent::{BAG_WORDS, NODE_WORDS};
 
 // Returns the word that stands for an item; it must be one.
+#[tactic(auto, unfolding(definition::specs::Bags::item_word))]
 pub fn item_word(item: Item) -> u64
     requires { item_word item < 2 ^ 64 }
     ensures { result ≡ item_word item }
 {
     match item {
-        Item::Token(token) => 4 * token + 1,
-        Item::Node(node) => 4 * node.0 + 2,
-        Item::Slot(slot) => 4 * slot.0 + 3,
+        Item::Token(v) => 4 * v + 1,
+        Item::Node(Node(v)) => 4 * v + 2,
+        Item::Slot(Slot(v)) => 4 * v + 3,
     }
 }
 
 // Returns the item that a word stands for.
+#[tactic(auto, unfolding(definition::specs::Bags::item_of, definition::specs::Base::branch))]
 pub fn item_of(w: u64) -> Item
     ensures { result ≡ item_of w }
 {
@@ -54,9 +50,7 @@ pub fn put_item(held: &mut [u64], p: usize, k: usize, item: Item) -> u64
     requires k_in_bounds { (p * 64 + k < length held.old) × (item_word item < 2 ^ 64) }
     ensures { (result ≡ places_left (k + 1)) × (held.new ≡ set held.old (p * 64 + k) (item_word item)) }
 {
-    let place = p * ROW + k;
-    let w = item_word(item);
-    held[place] = w;
+    held[p * BAG_WORDS + k] = item_word(item);
     Bag::places_left(k as u64 + 1)
 }
 
@@ -65,24 +59,19 @@ pub fn holds_token(held: &[u64], p: usize, k: usize, token: u64) -> bool
     requires { p * 64 + k ≤ length held.now }
     ensures { result ≡ among token (tokens (items k (words_at held.now (p * 64)))) }
 {
-    let at = p * ROW;
-    let mut i: usize = 0;
-    while i < k {
-        let found = is_token(held[at + i], token);
-        if found {
-            return true;
-        }
-        i += 1;
-    }
-    false
+    let at = p * BAG_WORDS;
+    held[at..at + k].iter().any(|w| is_token(*w, token))
 }
 
 // Returns whether the item that a word stands for is this token. A node or a slot of the same number is none.
+#[tactic(auto, using(crate::proofs::Items::token_test, crate::proofs::Items::token_none))]
 fn is_token(w: u64, token: u64) -> bool
     ensures { result ≡ among token (tokens (item_of w ∷ [])) }
 {
-    let kind = w % 4;
-    (kind == 1) & (token == w / 4)
+    match item_of(w) {
+        Item::Token(t) => token == t,
+        _ => false,
+    }
 }
 
 // Moves participant `p`'s bag of `k` items into a node and seals it with `e`. The node's next is null.
@@ -99,28 +88,19 @@ pub fn seal_bag(
     ensures { (nodes.new ≡ stamped nodes.old node e.0 k)
         × (queued.new ≡ paste queued.old (node * 64) (drop (p * 64) held.now) k) }
 {
-    move_items(held, p * ROW, queued, node * ROW, k);
+    let from = p * BAG_WORDS;
+    let to = node * BAG_WORDS;
+    queued[to..to + k].copy_from_slice(&held[from..from + k]);
     stamp(nodes, node, e, k);
 }
 
-// Copies `n` words from place `from` of one list to place `to` of another.
-fn move_items(src: &[u64], from: usize, dst: &mut [u64], to: usize, n: usize)
-    requires { (from + n ≤ length src.now) × (to + n ≤ length dst.old) }
-    ensures { dst.new ≡ paste dst.old to (drop from src.now) n }
-{
-    let mut k: usize = 0;
-    while k < n {
-        dst[to + k] = src[from + k];
-        k += 1;
-    }
-}
-
 // Writes a node's row: no next, the seal, the length.
+#[tactic(auto, unfolding(crate::specs::Bags::stamped, definition::specs::Links::null))]
 fn stamp(nodes: &mut [u64], node: usize, e: Epoch, k: usize)
     requires { node * 3 + 3 ≤ length nodes.old }
     ensures { nodes.new ≡ stamped nodes.old node e.0 k }
 {
-    let at = node * NODE_ROW;
+    let at = node * NODE_WORDS;
     nodes[at] = 0;
     nodes[at + 1] = e.0;
     nodes[at + 2] = k as u64;
@@ -144,67 +124,20 @@ pub fn free_bag(
         × ((nodes.new ≡ set nodes.old (node * 3 + 2) 0)
         × (freed.new ≡ filled (tokens (bag_items nodes.old queued.now node)) freed.old))) }
 {
-    let len_at = node * NODE_ROW + 2;
+    let len_at = node * NODE_WORDS + 2;
+    let at = node * BAG_WORDS;
     let k = nodes[len_at] as usize;
-    let t = free_items(globals, n, queued, node * ROW, k, freed);
+    let mut t: usize = 0;
+    for w in &queued[at..at + k] {
+        match item_of(*w) {
+            Item::Token(token) => {
+                freed[t] = token;
+                t += 1;
+            }
+            Item::Node(Node(i)) => bits::give(globals, bits::node_bits_at(n), i as usize),
+            Item::Slot(Slot(i)) => bits::give(globals, bits::slot_bits_at(), i as usize),
+        }
+    }
     nodes[len_at] = 0;
     t as u64
-}
-
-// Frees `k` items from place `at` of `queued` on.
-fn free_items(
-    globals: &mut [u64],
-    n: usize,
-    queued: &[u64],
-    at: usize,
-    k: usize,
-    freed: &mut [u64],
-) -> usize
-    requires k_in_bounds { (at + k ≤ length queued.now) × (k ≤ length freed.old) }
-    requires have_their_bits { have_bits n (length globals.old) k (words_at queued.now at) ≡ true }
-    ensures { (result ≡ length (tokens (items k (words_at queued.now at))))
-        × ((globals.new ≡ free_items n (items k (words_at queued.now at)) globals.old)
-        × (freed.new ≡ filled (tokens (items k (words_at queued.now at))) freed.old)) }
-{
-    let mut t: usize = 0;
-    let mut j: usize = 0;
-    while j < k {
-        let item = item_of(queued[at + j]);
-        free_index(globals, n, item);
-        t = free_token(freed, t, item);
-        j += 1;
-    }
-    t
-}
-
-// Gives back the index that an item is, if it is one.
-fn free_index(globals: &mut [u64], n: usize, item: Item)
-    requires { has_bit n (length globals.old) item ≡ true }
-    ensures { globals.new ≡ free_item n item globals.old }
-{
-    match item {
-        Item::Token(_) => {}
-        Item::Node(node) => {
-            bits::give(globals, bits::node_bits_at(n), node.0 as usize);
-        }
-        Item::Slot(slot) => {
-            bits::give(globals, bits::slot_bits_at(), slot.0 as usize);
-        }
-    }
-}
-
-// Puts the token that an item is, if it is one, at place `t`. Returns the next place.
-fn free_token(freed: &mut [u64], t: usize, item: Item) -> usize
-    requires { t < length freed.old }
-    ensures { (result ≡ t + length (tokens (item ∷ [])))
-        × (freed.new ≡ sets freed.old t (tokens (item ∷ []))) }
-{
-    match item {
-        Item::Token(token) => {
-            freed[t] = token;
-            t + 1
-        }
-        Item::Node(_) => t,
-        Item::Slot(_) => t,
-    }
 }

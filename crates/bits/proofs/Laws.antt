@@ -3,19 +3,28 @@
 use mathlib.Core.Path.{◌≡◌, refl, ap, ◌∙◌, fun_ext}
 use mathlib.Core.Bool.{Bool, false, ◌&&◌}
 use mathlib.Core.List.{List}
-use Prim.Native.Nat.{ℕ, ◌+◌, ◌*◌, ◌/◌, ◌%◌, ◌^◌, ◌≤◌, ◌<◌}
+use Prim.Native.Nat.{ℕ, ◌+◌, ◌-◌, ◌*◌, ◌/◌, ◌%◌, ◌^◌, ◌≤◌, ◌<◌}
 use native.Mathlib.Omega.{arith}
+use lib.Bits.{bit_and}
 use lib.Dec.{ltb}
-use lib.ListN.{length, get_or, set, length-set}
-use lib.Seq.{get_or-set_same, get_or-set_other, set-get_or}
+use lib.ListN.{length, get_or, set, take, drop, length-set}
+use lib.Seq.{get_or-set_same, get_or-set_other, set-get_or, get_or-take, get_or-drop}
 use borrow.Author.Tests.{lt-ltb, le-ltb}
+use Rattle.std.specs.Int.{bit_not, w64}
+use Rattle.std.specs.Int.RustNames.{bit_or}
 use Rattle.definition.specs.Base.{Tab, put}
 use Rattle.definition.specs.Layout.{bit, bits, bits_word, global_words, slot_bits, node_bits}
 use Rattle.definition.specs.Ranges.{bit_words, bits_in}
 use Rattle.definition.proofs.Base.{put_same, put_other, same?}
-use Rattle.bits.specs.Bits.{words_at, within, written, marked}
+use Rattle.bits.specs.Bits.{words_at, within, written, marked, taken, given}
 use Rattle.bits.proofs.Table.{below?}
-use Rattle.bits.proofs.Word.{written_same, bit-written, number, number_ext, bit-number, number-bits, number-lt}
+use Rattle.bits.proofs.Word.{bit_or-written, bit_and-written, written_same, bit-written, number, number_ext, bit-number, number-bits, number-lt}
+
+-- ---- the words from `at` on, as a slice
+
+-- word j of k of them
+pub slice_word : (g : List ℕ) (at k j : ℕ) → j < k → get_or (take (at + k - at) (drop at g)) j 0 ≡ get_or g (at + j) 0
+slice_word g at k j l = get_or-take (at + k - at) (drop at g) j 0 (omega arith) ∙ get_or-drop at g j 0
 
 -- ---- the bits of k words
 
@@ -41,6 +50,17 @@ bits_same k v w h = fun_ext at
     at i = below? (i / 64) k (λ l. rw (h (i / 64) l)) (λ l. rw (le-ltb (i / 64) k l))
 
 -- ---- one bit written: `taken` and `given` are `marked` with false and with true
+
+-- the stores of `take` and `give`
+pub taken_is : (g : List ℕ) (at i : ℕ) → get_or g (at + i / 64) 0 < 2 ^ 64
+    → set g (at + i / 64) (bit_and (get_or g (at + i / 64) 0) (bit_not w64 (1 * 2 ^ (i % 64) % 2 ^ 64))) ≡ taken g at i
+unfolding marked
+taken_is g at i fits = ap (set g (at + i / 64)) (bit_and-written (get_or g (at + i / 64) 0) (i % 64) fits (omega arith))
+
+pub given_is : (g : List ℕ) (at i : ℕ) → get_or g (at + i / 64) 0 < 2 ^ 64
+    → set g (at + i / 64) (bit_or (get_or g (at + i / 64) 0) (1 * 2 ^ (i % 64) % 2 ^ 64)) ≡ given g at i
+unfolding marked
+given_is g at i fits = ap (set g (at + i / 64)) (bit_or-written (get_or g (at + i / 64) 0) (i % 64) fits (omega arith))
 
 module _ (l : List ℕ) (at i : ℕ) (b : Bool) where
   -- the list is as long

@@ -1,16 +1,23 @@
 -- What a turn of each loop does to what its function promises: word j of k words, with the words before it done. Assumes nothing.
 use mathlib.Core.Path.{◌≡◌, refl, sym, ap, ◌∙◌}
 use mathlib.Core.Bool.{Bool, true, false, ◌&&◌}
-use Prim.Native.Nat.{ℕ, ◌+◌, ◌-◌, ◌*◌, ◌/◌, ◌^◌, ◌≤◌, ◌<◌}
+use mathlib.Core.List.{List, [], ◌∷◌}
+use Prim.Native.Nat.{ℕ, zero, suc, ◌+◌, ◌-◌, ◌*◌, ◌/◌, ◌%◌, ◌^◌, ◌≤◌, ◌<◌}
+use native.Mathlib.Nat.{add-zero, div-one}
+use native.Mathlib.Numerals.{add-one}
 use native.Mathlib.Omega.{arith}
 use lib.Count.{count_trailing_zeros, ones}
 use lib.Dec.{ltb, eqb}
+use lib.ListN.{length, get_or, take, drop, length-drop}
 use lib.Pow.{pow_pos}
-use borrow.Author.Tests.{ltb-true, lt-ltb, le-ltb, eq-eqb, ne_eqb}
-use Rattle.definition.specs.Base.{branch, Tab, count, all, least}
+use lib.Seq.{get_or-take, get_or-drop, length-take-le}
+use borrow.Author.Tests.{ltb-true, lt-ltb, le-ltb, eq-eqb, ne_eqb, eqb-true, eqb-false}
+use Rattle.std.specs.List.{sum_by, list_all}
+use Rattle.std.proofs.lemmas.List.Sums.{sum_by_more}
+use Rattle.definition.specs.Base.{branch, Tab, sum, count, all, least}
 use Rattle.definition.specs.Layout.{bit, bits}
 use Rattle.definition.proofs.Base.{branch_same, all_at, all_intro, count_none}
-use Rattle.bits.specs.Bits.{within}
+use Rattle.bits.specs.Bits.{words_at, within}
 use Rattle.bits.proofs.Table.{below?, count_ext, count-add, all_ext, all_add, least_at}
 use Rattle.bits.proofs.Word.{bit_high, lowest_lt, lowest_set, lowest_below, count-bits, none_beyond}
 use Rattle.bits.proofs.Laws.{bits_at, bits_out}
@@ -142,3 +149,83 @@ within_not j k n f l e =
 pub within_less : (j k n : ℕ) (f : Tab Bool) → j ≤ k → within k n f ≡ true → within j n f ≡ true
 within_less j k n f l h =
     all_intro (64 * j) (λ i. branch (f i) (ltb i n) true) (λ i s. all_at (64 * k) (λ i. branch (f i) (ltb i n) true) i h (omega arith))
+
+-- ---- what the chains of iterators give
+
+-- the set bits of the first m of k words
+ones_counted : (g : List ℕ) (at k : ℕ) → at + k ≤ length g → ((j : ℕ) → get_or g j 0 < 2 ^ 64) → (m : ℕ) → m ≤ k
+    → sum_by ones (take m (drop at g)) ≡ count (64 * m) (bits k (words_at g at))
+unfolding count sum
+ones_counted g at k le fits zero l = refl
+ones_counted g at k le fits (suc m) l =
+    let long : m < length (drop at g) = simp length-drop (omega arith) in
+    let word : ones (get_or (drop at g) m 0) ≡ ones (get_or g (at + m) 0) = ap ones (get_or-drop at g m 0) in
+    ap (λ (x : ℕ). sum_by ones (take x (drop at g))) (sym (add-one m)) ∙ sum_by_more ones (drop at g) m 0 long
+    ∙ rw (word, ones_counted g at k le fits m (omega arith))
+    (count-word k (words_at g at) m (omega arith) (fits (at + m))
+    ∙ ap (λ (x : ℕ). count (64 * x) (bits k (words_at g at))) (add-one m))
+
+-- `count_free`: those of all of them
+pub ones_count : (g : List ℕ) (at k n : ℕ) → at + k ≤ length g → ((j : ℕ) → get_or g j 0 < 2 ^ 64)
+    → within k n (bits k (words_at g at)) ≡ true
+    → sum_by ones (take (at + k - at) (drop at g)) ≡ count n (bits k (words_at g at))
+ones_count g at k n le fits h =
+    let e : at + k - at ≡ k = omega arith in
+    rw e (ones_counted g at k le fits k (omega arith) ∙ count_end k (words_at g at) n h)
+
+-- `bits_in`: no word from j on has a bit exactly if each is 0, where n stands before them
+pub zeros : (k n : ℕ) (words : Tab ℕ) → ((i : ℕ) → i < k → words i < 2 ^ 64) → (xs : List ℕ) (j : ℕ) → j + length xs ≡ k
+    → ((i : ℕ) → i < length xs → get_or xs i 0 ≡ words (j + i)) → n ≤ 64 * j → within j n (bits k words) ≡ true
+    → list_all (λ w. eqb w 0) xs ≡ within k n (bits k words)
+zeros k n words fits [] j e same l before = sym before ∙ ap (λ (m : ℕ). within m n (bits k words)) (sym (add-zero j) ∙ e)
+zeros k n words fits (x ∷ xs) j e same l before =
+    by (eqb x 0) refl
+    (zeros k n words fits xs (j + 1) (omega arith)
+    (λ i s. same (suc i) (omega arith) ∙ ap words (omega arith)) (omega arith))
+  where
+    there : x ≡ words j
+    there = same 0 (omega arith) ∙ ap words (add-zero j)
+
+    shift : n - 64 * j ≡ 0
+    shift = omega arith
+
+    by : (b : Bool) → eqb x 0 ≡ b
+        → (within (j + 1) n (bits k words) ≡ true → list_all (λ w. eqb w 0) xs ≡ within k n (bits k words))
+        → list_all (λ w. eqb w 0) (x ∷ xs) ≡ within k n (bits k words)
+    by true z again =
+        let none : words j / 2 ^ (n - 64 * j) ≡ 0 = rw (shift, ← there, eqb-true x 0 z) refl in
+        rw z (again (within-later k words j (omega arith) (fits j (omega arith)) n before none))
+    by false z again =
+        let one : words j / 2 ^ (n - 64 * j) ≡ 0 → ⊥ = λ o. eqb-false x 0 z (there ∙ sym (div-one (words j)) ∙ (rw shift at o)) in
+        let here = within_here k words j (omega arith) (fits j (omega arith)) n before one in
+        rw z (sym (within_not (j + 1) k n (bits k words) (omega arith) here))
+
+module _ (g : List ℕ) (at k n : ℕ) (le : at + k ≤ length g) (fits : (j : ℕ) → get_or g j 0 < 2 ^ 64) where
+  -- where n stands in no word, or beyond them, no bit is set there
+  pub within-short : k ≤ n / 64 → within k n (bits k (words_at g at)) ≡ true
+  within-short l = within_less k (n / 64) n (bits k (words_at g at)) l (within-start n (bits k (words_at g at)))
+
+  module _ (l : n / 64 < k) where
+    shift : n - 64 * (n / 64) ≡ n % 64
+    shift = omega arith
+
+    -- `bits_in`: one is where the word of n has one
+    pub within-first : (get_or g (at + n / 64) 0 / 2 ^ (n % 64) ≡ 0 → ⊥) → within k n (bits k (words_at g at)) ≡ false
+    within-first ne =
+        let set : words_at g at (n / 64) / 2 ^ (n - 64 * (n / 64)) ≡ 0 → ⊥ = rw shift ne in
+        let here = within_here k (words_at g at) (n / 64) l (fits (at + n / 64)) n (within-start n (bits k (words_at g at))) set in
+        within_not (n / 64 + 1) k n (bits k (words_at g at)) (omega arith) here
+
+    -- and where it has none, the words behind it tell
+    pub within-rest : get_or g (at + n / 64) 0 / 2 ^ (n % 64) ≡ 0
+        → list_all (λ w. eqb w 0) (take (at + k - (at + n / 64 + 1)) (drop (at + n / 64 + 1) g)) ≡ within k n (bits k (words_at g at))
+    within-rest e =
+        let clear : words_at g at (n / 64) / 2 ^ (n - 64 * (n / 64)) ≡ 0 = rw shift e in
+        let later = within-later k (words_at g at) (n / 64) l (fits (at + n / 64)) n (within-start n (bits k (words_at g at))) clear in
+        let xs : List ℕ = take (at + k - (at + n / 64 + 1)) (drop (at + n / 64 + 1) g) in
+        let enough : at + k - (at + n / 64 + 1) ≤ length (drop (at + n / 64 + 1) g) = simp length-drop (omega arith) in
+        let long : length xs ≡ k - (n / 64 + 1) =
+        length-take-le (at + k - (at + n / 64 + 1)) (drop (at + n / 64 + 1) g) enough ∙ omega arith in
+        zeros k n (words_at g at) (λ i s. fits (at + i)) xs (n / 64 + 1) (omega arith)
+        (λ i s. get_or-take (at + k - (at + n / 64 + 1)) (drop (at + n / 64 + 1) g) i 0 (omega arith)
+        ∙ get_or-drop (at + n / 64 + 1) g i 0 ∙ ap (λ (x : ℕ). get_or g x 0) (omega arith)) (omega arith) later

@@ -1,4 +1,5 @@
 -- The bits of one word: a word is its lowest bit and twice its half, so every law goes by halving. Assumes nothing.
+use mathlib.Core.Logic.{◌≢◌}
 use mathlib.Core.Path.{◌≡◌, refl, sym, ap, ◌∙◌}
 use mathlib.Core.Bool.{Bool, true, false, true≢false}
 use Prim.Native.Nat.{ℕ, zero, suc, ◌+◌, ◌-◌, ◌*◌, ◌/◌, ◌%◌, ◌^◌, ◌≤◌, ◌<◌}
@@ -6,10 +7,14 @@ use native.Mathlib.Nat.{add_comm, zero-mul, one-mul, mul_assoc, pow-suc, div-one
 use native.Mathlib.Nat.{le_trans, lt_of_lt_of_le, lt_of_le_of_lt, mul-le-mul_right}
 use native.Mathlib.Numerals.{one-add}
 use native.Mathlib.Omega.{arith}
+use lib.Bits.{bit_and, and_le_l, or_lt}
 use lib.Count.{count_trailing_zeros, under, ones, ones_step, ones-ones}
 use lib.Dec.{eqb, ltb, lit<}
-use lib.Pow.{shr-shr, shl_exact, shr_le, pow_mono, pow_pos}
+use lib.Pow.{shr-shr, shr_le, pow_mono, pow_pos}
 use borrow.Author.Tests.{eq-eqb, ne_eqb, eqb-true, eqb-false, lt-ltb, le-ltb}
+use Rattle.std.specs.Int.{bit_not, w64}
+use Rattle.std.specs.Int.RustNames.{bit_or}
+use Rattle.std.proofs.lemmas.Nat.Bits.{same_from_bits_below, bit_at_set_same, bit_at_set_other, bit_at_clear_same, bit_at_clear_other}
 use Rattle.definition.specs.Base.{branch, Tab, put, sum, count, all}
 use Rattle.definition.specs.Layout.{bit}
 use Rattle.definition.proofs.Base.{put_same, put_other, same?, sum_ext, branch_same, all_intro}
@@ -41,10 +46,6 @@ bit_shift w m k = ap (λ (x : ℕ). eqb (x % 2) 1) (shr-shr w m k)
 pub bit_high : (w k : ℕ) → w < 2 ^ k → bit w k ≡ false
 unfolding bit
 bit_high w k h = rw (div-eq_of_lt h)
-
--- `1 << k`
-pub shifted_one : (k : ℕ) → k < 64 → (1 * 2 ^ k) % 2 ^ 64 ≡ 2 ^ k
-shifted_one k h = shl_exact {a = 1} 1 k 64 (lit< tt) (omega arith) ∙ one-mul (2 ^ k)
 
 -- ---- a written bit
 
@@ -123,6 +124,44 @@ bit-written w (suc k) b (suc j) =
         (λ ne.
         put_other (bit (w / 2)) k j b ne ∙ sym (bit-suc w j)
         ∙ sym (put_other (bit w) (suc k) (suc j) b (λ (z : suc k ≡ suc j). ne (omega arith))))
+
+-- a digit is told by the bit
+digit : (n i : ℕ) → n / 2 ^ i % 2 ≡ branch (bit n i) 1 0
+unfolding bit branch
+digit n i = by (n / 2 ^ i % 2) (omega arith)
+  where
+    by : (r : ℕ) → r < 2 → r ≡ branch (eqb r 1) 1 0
+    by zero l = refl
+    by (suc zero) l = refl
+    by (suc (suc r)) l = absurd (omega arith)
+
+-- so where the bits are those of a word with one written, so are the digits
+written_at : (n w k : ℕ) (b : Bool) → n / 2 ^ k % 2 ≡ branch b 1 0 → ((i : ℕ) → i < 64 → i ≢ k → n / 2 ^ i % 2 ≡ w / 2 ^ i % 2)
+    → (i : ℕ) → i < 64 → n / 2 ^ i % 2 ≡ written w k b / 2 ^ i % 2
+written_at n w k b here other i l =
+    let bits = digit (written w k b) i ∙ ap (λ (x : Bool). branch x 1 0) (bit-written w k b i) in
+    same? k i
+    (λ e. rw (bits, ← e, put_same (bit w) k b) here)
+    (λ ne. rw (bits, put_other (bit w) k i b ne) (other i l (λ z. ne (sym z)) ∙ digit w i))
+
+module _ (w k : ℕ) (fits : w < 2 ^ 64) (l : k < 64) where
+  -- `w | 1 << k`
+  pub bit_or-written : bit_or w (1 * 2 ^ k % 2 ^ 64) ≡ written w k true
+  unfolding branch
+  bit_or-written =
+      let p : 1 * 2 ^ k % 2 ^ 64 < 2 ^ 64 = omega arith in
+      same_from_bits_below 64 (bit_or w (1 * 2 ^ k % 2 ^ 64)) (written w k true) (or_lt 64 w (1 * 2 ^ k % 2 ^ 64) fits p)
+      (written-lt 64 w k true fits l)
+      (written_at (bit_or w (1 * 2 ^ k % 2 ^ 64)) w k true (bit_at_set_same w64 w k l) (λ i s ne. bit_at_set_other w64 w k l i ne))
+
+  -- `w & !(1 << k)`
+  pub bit_and-written : bit_and w (bit_not w64 (1 * 2 ^ k % 2 ^ 64)) ≡ written w k false
+  unfolding branch
+  bit_and-written =
+      let n : ℕ = bit_and w (bit_not w64 (1 * 2 ^ k % 2 ^ 64)) in
+      same_from_bits_below 64 n (written w k false) (lt_of_le_of_lt (and_le_l w (bit_not w64 (1 * 2 ^ k % 2 ^ 64))) fits)
+      (written-lt 64 w k false fits l)
+      (written_at n w k false (bit_at_clear_same w64 w k l) (λ i s ne. bit_at_clear_other w64 w k l i s ne))
 
 -- ---- the lowest set bit: each law by the lowest digit d of n, where t is the lowest set bit of the half
 

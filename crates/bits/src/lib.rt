@@ -5,23 +5,24 @@
 // that table. Taking and giving are total: taking what is taken, and giving what is free, changes nothing.
 #![tactic(auto)]
 
-ghost use Rattle.std.specs.Prelude.{◌≡◌, true, ◌+◌, ◌/◌, ◌^◌, ◌≤◌, ◌<◌, length};
+ghost use Rattle.std.specs.Prelude.{◌≡◌, true, ◌+◌, ◌/◌, ◌≤◌, ◌<◌, length};
 ghost use Rattle.definition.specs.Base.{count, least};
 ghost use Rattle.definition.specs.Layout.{bits, global_words};
 ghost use Rattle.definition.specs.Ranges.{bit_words};
-ghost use Rattle.bits.specs.Bits.{words_at, within, written, marked, taken, given};
+ghost use Rattle.bits.specs.Bits.{words_at, within, taken, given};
 
-// Words of the list that stand before the free bits.
-const GLOBAL_WORDS: usize = 5;
+use lent::GLOBAL_WORDS;
 
-// Returns how many words `n` bits take: `n` divided by 64, rounded up without a sum that could wrap.
+// Returns how many words `n` bits take.
+#[tactic(auto, unfolding(definition::specs::Ranges::bit_words))]
 pub fn bit_words(n: usize) -> usize
     ensures { result ≡ bit_words n }
 {
-    n / 64 + (n % 64 + 63) / 64
+    n.div_ceil(64)
 }
 
 // Returns where the bits of the slots begin: after the words that are no bits.
+#[tactic(auto, unfolding(definition::specs::Layout::global_words))]
 pub fn slot_bits_at() -> usize
     ensures { result ≡ global_words }
 {
@@ -29,6 +30,7 @@ pub fn slot_bits_at() -> usize
 }
 
 // Returns where the bits of the nodes begin, for `n` participants: after those of the slots.
+#[tactic(auto, using(crate::proofs::Laws::bit_words_least), unfolding(definition::specs::Layout::global_words))]
 pub fn node_bits_at(n: usize) -> usize
     ensures { result ≡ global_words + bit_words n }
 {
@@ -41,14 +43,10 @@ pub fn first_free(globals: &[u64], at: usize, k: usize, n: usize) -> usize
     requires none_beyond { within k n (bits k (words_at globals.now at)) ≡ true }
     ensures { result ≡ least n (bits k (words_at globals.now at)) }
 {
-    let mut j: usize = 0;
-    while j < k {
-        let w = globals[at + j];
-        if w != 0 {
-            let low = u64::trailing_zeros(w);
-            return 64 * j + low as usize;
+    for (j, w) in globals[at..at + k].iter().enumerate() {
+        if *w != 0 {
+            return 64 * j + w.trailing_zeros() as usize;
         }
-        j += 1;
     }
     n
 }
@@ -59,15 +57,10 @@ pub fn count_free(globals: &[u64], at: usize, k: usize, n: usize) -> u64
     requires none_beyond { within k n (bits k (words_at globals.now at)) ≡ true }
     ensures { result ≡ count n (bits k (words_at globals.now at)) }
 {
-    let mut total: u64 = 0;
-    let mut j: usize = 0;
-    while j < k {
-        let w = globals[at + j];
-        let ones = u64::count_ones(w);
-        total += ones as u64;
-        j += 1;
-    }
-    total
+    globals[at..at + k]
+        .iter()
+        .map(|w| u64::from(w.count_ones()))
+        .sum()
 }
 
 // Returns whether no bit at `n` or beyond is set. Only the word that has bit `n`, from that bit on, and those after it are looked at.
@@ -75,61 +68,27 @@ pub fn bits_in(globals: &[u64], at: usize, k: usize, n: usize) -> bool
     requires { at + k ≤ length globals.now }
     ensures { result ≡ within k n (bits k (words_at globals.now at)) }
 {
-    let mut from = n % 64;
-    let mut j = n / 64;
-    while j < k {
-        let w = globals[at + j];
-        let beyond = w >> from;
-        if beyond != 0 {
-            return false;
-        }
-        from = 0;
-        j += 1;
+    let j = n / 64;
+    if j >= k {
+        return true;
     }
-    true
+    globals[at + j] >> (n % 64) == 0 && globals[at + j + 1..at + k].iter().all(|w| *w == 0)
 }
 
 // Takes index `i`: it is no longer free.
+#[tactic(auto, using(crate::proofs::Laws::taken_is))]
 pub fn take(globals: &mut [u64], at: usize, i: usize)
     requires { at + i / 64 < length globals.old }
     ensures { globals.new ≡ taken globals.old at i }
 {
-    mark(globals, at, i, false);
+    globals[at + i / 64] &= !(1 << (i % 64));
 }
 
 // Gives index `i` back: it is free.
+#[tactic(auto, using(crate::proofs::Laws::given_is))]
 pub fn give(globals: &mut [u64], at: usize, i: usize)
     requires { at + i / 64 < length globals.old }
     ensures { globals.new ≡ given globals.old at i }
 {
-    mark(globals, at, i, true);
-}
-
-// Makes bit `i` what `free` says.
-fn mark(globals: &mut [u64], at: usize, i: usize, free: bool)
-    requires { at + i / 64 < length globals.old }
-    ensures { globals.new ≡ marked globals.old at i free }
-{
-    let place = at + i / 64;
-    let w = globals[place];
-    let v = write_bit(w, (i % 64) as u64, free);
-    globals[place] = v;
-}
-
-// Returns the word with bit `k` as `set` says, whatever it was.
-fn write_bit(w: u64, k: u64, set: bool) -> u64
-    requires { k < 64 }
-    ensures { result ≡ written w k set }
-{
-    let p = pow2(k);
-    let clear = w - w / p % 2 * p;
-    if set { clear + p } else { clear }
-}
-
-// Returns 2 to the power of `k`.
-fn pow2(k: u64) -> u64
-    requires { k < 64 }
-    ensures { result ≡ 2 ^ k }
-{
-    1u64 << k
+    globals[at + i / 64] |= 1 << (i % 64);
 }

@@ -10,7 +10,7 @@ use Rattle.definition.specs.Base.{count}
 use Rattle.definition.specs.Calls.{needs, opens}
 use Rattle.definition.specs.Codec.{participant_of, place_of}
 use Rattle.definition.specs.Tables.{Tables}
-use Rattle.definition.specs.Layout.{Lent, lent, cell, participant_words, record_at, tables_of}
+use Rattle.definition.specs.Layout.{Lent, cell, participant_words, record_at, tables_of}
 use Rattle.definition.specs.Ranges.{is_rest}
 use Rattle.definition.specs.Public.{the, running}
 use Rattle.definition.specs.Step.{follow}
@@ -89,38 +89,38 @@ module _ (N M p : ℕ) (c : Call) (l : Lent) (s : Calls N M p c l) where
     total = total_fits;
   }
 
-  -- ---- the values that the code computes
+  -- ---- the values that the code computes, from the lists as they are read
 
-  pub row_ok : p * 21 + 21 ≤ length l.participants
-  row_ok = let below = s.below in rw size.participants (omega arith)
+  module _ (r : Lent) (e : r ≡ l) where
+    pub row_ok : p * 21 + 21 ≤ length r.participants
+    row_ok = let below = s.below in rw (e, size.participants) (omega arith)
 
-  module _ (o : Participant) (loaded : o ≡ participant_of (record_at (cell participant_words l.participants p))) where
-    o_is : o ≡ own
-    unfolding tables_of
-    o_is = loaded
+    module _ (o : Participant) (loaded : o ≡ participant_of (record_at (cell participant_words r.participants p))) where
+      o_is : o ≡ own
+      unfolding tables_of
+      o_is = rw e at loaded
 
-    -- the counts and the bag of a participant in range leave room for what is added to them
-    pub counts_ok : (o.counts.guards + 1 < 2 ^ 64) × (o.counts.handles + 1 < 2 ^ 64)
-    unfolding participant_of
-    counts_ok = rw o_is (omega (arith, row_known.guards), omega (arith, row_known.handles))
+      -- the counts and the bag of a participant in range leave room for what is added to them
+      pub counts_ok : (o.counts.guards + 1 < 2 ^ 64) × (o.counts.handles + 1 < 2 ^ 64)
+      unfolding participant_of
+      counts_ok = rw o_is (omega (arith, row_known.guards), omega (arith, row_known.handles))
 
-    pub held_ok : o.held + N + 8 < 2 ^ 64
-    held_ok = rw o_is (omega (arith, held-small, small))
+      pub held_ok : o.held + N + 8 < 2 ^ 64
+      held_ok = rw o_is (omega (arith, held-small, small))
 
-    module _ (a : After) (opened : a ≡ opens N c o) where
-      a_is : a ≡ after
-      a_is = opened ∙ ap (opens N c) o_is
+      module _ (a : After) (opened : a ≡ opens N c o) where
+        a_is : a ≡ after
+        a_is = opened ∙ ap (opens N c) o_is
 
-      -- `follow` may be called
-      pub may_follow : (f : List ℕ) → length f ≡ 64 → Follows N p o.held o.share a l.globals l.participants l.nodes l.held l.queued f
-      may_follow f e = rw (o_is, a_is) (may_carry N M p l own after carries f (omega (arith, e)))
+        -- `follow` may be called
+        pub may_follow : (f : List ℕ) → length f ≡ 64 → Follows N p o.held o.share a l f
+        may_follow f e = rw (o_is, a_is) (may_carry N M p l own after carries f (omega (arith, e)))
 
-      -- and what it leaves is the definition's, no token among it
-      pub leaves-call : (f : List ℕ) (r : Answer) (g' ps' n' h' q' f' : List ℕ)
-          → Followed N p o.held o.share a l.globals l.participants l.nodes l.held l.queued f r g' ps' n' h' q' f'
-          → ((j : ℕ) → get_or g' j 0 < 2 ^ 64) → Leaves N M (follow p after tables) [] r (lent g' ps' n' h' q') []
-      unfolding follow
-      leaves-call f r g' ps' n' h' q' f' w fits =
-          let w' : Followed N p own.held own.share after l.globals l.participants l.nodes l.held l.queued f r g' ps' n' h' q' f' = rw (o_is, a_is) at w in
-          let e = carried-leaves N M p l own after carries f r g' ps' n' h' q' f' w' fits in
-          record { answer = e.answer; lent = e.lent; freed = rw (opens_none tables N c own) refl }
+        -- and what it leaves is the definition's, no token among it
+        pub leaves-call : (f : List ℕ) (w : Answer) (l' : Lent) (f' : List ℕ) → Followed N p o.held o.share a l f w l' f'
+            → Leaves N M (follow p after tables) [] w l' []
+        unfolding follow
+        leaves-call f w l' f' done =
+            let done' : Followed N p own.held own.share after l f w l' f' = rw (o_is, a_is) at done in
+            let out = carried-leaves N M p l own after carries f w l' f' done' in
+            record { answer = out.answer; lent = out.lent; freed = rw (opens_none tables N c own) refl }

@@ -2,30 +2,35 @@
 use mathlib.Core.Path.{◌≡◌, refl, ap, sym, ◌∙◌}
 use mathlib.Core.Bool.{Bool, true, false, ◌&&◌, ◌||◌, not, false≢true}
 use mathlib.Core.List.{List, [], ◌∷◌}
-use Prim.Native.Nat.{ℕ, ◌+◌, ◌-◌, ◌*◌, ◌≤◌, ◌<◌}
+use Prim.Native.Nat.{ℕ, ◌+◌, ◌*◌, ◌≤◌, ◌<◌}
 use native.Mathlib.Omega.{arith}
 use lib.Dec.{eqb, ltb, leb}
 use lib.ListN.{get_or}
-use borrow.Author.Tests.{leb-false, ltb-true, ltb-false, lt-ltb, le-ltb, eqb-true, eqb-false, eq-eqb, ne_eqb, le-leb, lt-leb, not-true, not-false}
+use borrow.Author.Tests.{leb-false, ltb-false, eqb-true, eqb-false, eq-eqb}
+use Rattle.std.specs.Prelude.{Result, Ok, Err}
+use Rattle.std.specs.Result.{IfOk}
 use Rattle.definition.specs.Base.{branch, count, least}
 use Rattle.definition.specs.Bags.{max_objects, items}
 use Rattle.definition.specs.Calls.{lacks, count_full, token_above, held_already, needs}
-use Rattle.definition.specs.Layout.{Lent, cell, participant_words, sized, slot_bits, node_bits, shared_from, tables_of}
+use Rattle.definition.specs.Layout.{Lent, sized, slot_bits, node_bits, shared_from, tables_of}
 use Rattle.definition.specs.Links.{is_tagged}
-use Rattle.definition.specs.Public.{Check, check, refusal, takes_node, step_checks, call_checks, register_checks, the, damaged, absent, running, twice, no_node, missing}
+use Rattle.definition.specs.Public.{Check, check, refusal, step_checks, call_checks, register_checks, the, damaged, absent, running, twice, no_node, missing}
 use Rattle.definition.specs.Ranges.{within_limits, bit_words, is_rest, bits_in, in_range}
 use Rattle.definition.specs.Tables.{Tables}
 use Rattle.definition.specs.declared.Call.{Call}
 use Rattle.definition.specs.declared.Participant.{Participant}
 use Rattle.definition.specs.Codec.{participant_of}
 use Rattle.definition.proofs.Base.{both, count_least}
-use Rattle.definition.proofs.Lists.{cell_in}
+use Rattle.definition.proofs.Lists.{sized_is}
 use Rattle.bits.specs.Bits.{within, words_at}
 use Rattle.bags.proofs.Nodes.{held-items}
 use Rattle.ranges.specs.Sound.{Sound}
+use Rattle.ranges.proofs.Laws.{limits-small, link_cell}
 use Rattle.ranges.proofs.Facts.{facts, bag-len-small}
-use Rattle.checks.specs.declared.Checked.{Checked}
-use Rattle.checks.specs.Refusals.{checked_of, sized_first, step_refusal, call_refusal, register_refusal, damage_of, step_rest, call_rest, register_rest, row}
+use Rattle.refusals.specs.Numbers.{number, refused}
+use Rattle.refusals.specs.declared.Refusal.{Refusal}
+use Rattle.checks.specs.Passed.{Passed, Present}
+use Rattle.checks.specs.Refusals.{sized_first, step_refusal, call_refusal, register_refusal, damage_of, step_rest, call_rest, register_rest, row}
 
 -- ---- the first check that holds
 
@@ -83,23 +88,6 @@ damage_none N M l e =
     by true z = refl
     by false z = absurd (omega arith)
 
-pub damage_first : (N M : ℕ) (l : Lent) (cs : List Check) → (damage_of N M l ≡ 0 → ⊥)
-    → sized_first N M l (refusal (check 1 (damaged N M (tables_of N M l)) ∷ cs)) ≡ damage_of N M l
-unfolding damage_of damaged refusal branch
-damage_first N M l cs ne = by (within_limits N M && sized N M l) (in_range N M (tables_of N M l)) ne
-  where
-    by : (b c : Bool) → (◌≡◌ {A = ℕ} (branch b (branch c 0 1) 2) 0 → ⊥) → ◌≡◌ {A = ℕ} (branch b (branch (not c) 1 (refusal cs)) 2) (branch b (branch c 0 1) 2)
-    by true true z = absurd (z refl)
-    by true false z = refl
-    by false c z = refl
-
-pub damage-after : (N M : ℕ) (l : Lent) (cs : List Check) → damage_of N M l ≡ 0
-    → sized_first N M l (refusal (check 1 (damaged N M (tables_of N M l)) ∷ cs)) ≡ refusal cs
-unfolding damaged refusal branch
-damage-after N M l cs e =
-    let w = damage_none N M l e in
-    rw (w.limits, w.lengths, w.range)
-
 -- ---- a participant that is there
 
 -- not absent: the index is one of N, and the slot is not free
@@ -109,6 +97,18 @@ present N M p t e =
     let a = neither (leb N p || t.slot_free p) _ e in
     let b = neither (leb N p) (t.slot_free p) a.0 in
     (leb-false N p b.0, b.1)
+
+-- absent, by the words that say so
+pub absent_words : (N M p : ℕ) (l : Lent) → absent N M p (tables_of N M l)
+    ≡ (leb N p || slot_bits N l.globals p || (is_tagged (get_or l.participants (p * 21 + 1) 0) && is_rest (row l.participants p).place))
+unfolding absent running tables_of shared_from
+absent_words N M p l = rw (link_cell l.participants p, not_not (is_rest (row l.participants p).place))
+
+-- twice, by the words of the bag
+pub twice_words : (N M p : ℕ) (c : Call) (l : Lent) (o : Participant) → Present N M l p o
+    → twice p c (tables_of N M l) ≡ held_already c (items o.held (words_at l.held (p * 64)))
+unfolding twice tables_of
+twice_words N M p c l o h = rw (← h.own) (ap (held_already c) (held-items l.held p o.held h.few))
 
 -- a step may go on
 pub record StepFine (N M : ℕ) (l : Lent) (places p : ℕ) : Type 0 where
@@ -195,38 +195,58 @@ register_fine N M l e =
     let b = none 10 _ _ (λ z. absurd (omega arith)) a.1 in
     record { sound = a.0; free = count_least N (tables_of N M l).slot_free (eqb-false _ _ b.0) }
 
--- fine is no refusal
-pub fine_is : (k : ℕ) → Checked.Fine ≡ checked_of k → k ≡ 0
-unfolding checked_of branch
-fine_is k e = by (eqb k 0) refl e
-  where
-    by : (b : Bool) → eqb k 0 ≡ b → Checked.Fine ≡ branch b Checked.Fine (Checked.Refused k) → k ≡ 0
-    by true t f = eqb-true k 0 t
-    by false t f = let z : ◌≡◌ {A = ℕ} 0 1 = cc in absurd (omega arith)
+-- ---- an answer of a check is fixed by its number
 
--- ---- what the code finds, one thing after another
+-- the refusal that has a number
+named : ℕ → Refusal
+named k =
+    branch (eqb k 1) Refusal.Damage (branch (eqb k 2) Refusal.Sizes (branch (eqb k 3) Refusal.Gone (
+    branch (eqb k 4) Refusal.Busy (branch (eqb k 5) Refusal.Idle (branch (eqb k 6) Refusal.NoGuard (
+    branch (eqb k 7) Refusal.NoHandle (branch (eqb k 8) Refusal.CountFull (branch (eqb k 9) Refusal.TokenAbove (
+    branch (eqb k 10) Refusal.NoSlot (branch (eqb k 11) Refusal.NoNode (branch (eqb k 12) Refusal.ListShort (
+    branch (eqb k 13) Refusal.Record Refusal.HeldAlready))))))))))))
 
--- what is free, less what is set aside, is below the need just where the sum of the two is above what is free
-pub below_need : (free aside need : ℕ) → aside ≤ free → ltb (free - aside) need ≡ ltb free (aside + need)
-below_need free aside need h = by (ltb free (aside + need)) refl
-  where
-    by : (b : Bool) → ltb free (aside + need) ≡ b → ltb (free - aside) need ≡ b
-    by true e = lt-ltb (free - aside) need (let k = ltb-true free (aside + need) e in omega arith)
-    by false e = le-ltb (free - aside) need (let k = ltb-false free (aside + need) e in omega arith)
+named-number : (r : Refusal) → named (number r) ≡ r
+unfolding named branch
+named-number Refusal.Damage = refl
+named-number Refusal.Sizes = refl
+named-number Refusal.Gone = refl
+named-number Refusal.Busy = refl
+named-number Refusal.Idle = refl
+named-number Refusal.NoGuard = refl
+named-number Refusal.NoHandle = refl
+named-number Refusal.CountFull = refl
+named-number Refusal.TokenAbove = refl
+named-number Refusal.NoSlot = refl
+named-number Refusal.NoNode = refl
+named-number Refusal.ListShort = refl
+named-number Refusal.Record = refl
+named-number Refusal.HeldAlready = refl
 
--- sizes that are not right; right ones, and then the ranges
-pub damage-sizes : (N M : ℕ) (l : Lent) (b : Bool) → b ≡ (within_limits N M && sized N M l) → not b ≡ true → 2 ≡ damage_of N M l
-unfolding damage_of branch
-damage-sizes N M l b e h = rw (sym e ∙ not-true b h)
+number-positive : (r : Refusal) → number r ≡ 0 → ⊥
+number-positive Refusal.Damage e = omega arith
+number-positive Refusal.Sizes e = omega arith
+number-positive Refusal.Gone e = omega arith
+number-positive Refusal.Busy e = omega arith
+number-positive Refusal.Idle e = omega arith
+number-positive Refusal.NoGuard e = omega arith
+number-positive Refusal.NoHandle e = omega arith
+number-positive Refusal.CountFull e = omega arith
+number-positive Refusal.TokenAbove e = omega arith
+number-positive Refusal.NoSlot e = omega arith
+number-positive Refusal.NoNode e = omega arith
+number-positive Refusal.ListShort e = omega arith
+number-positive Refusal.Record e = omega arith
+number-positive Refusal.HeldAlready e = omega arith
 
-pub damage_ranges : (N M : ℕ) (l : Lent) (b w : Bool) (r : ℕ) → b ≡ (within_limits N M && sized N M l) → not b ≡ false
-    → w ≡ in_range N M (tables_of N M l) → r ≡ branch w 0 1 → r ≡ damage_of N M l
-unfolding damage_of branch
-damage_ranges N M l b w r e h s t = t ∙ rw (sym e ∙ not-false b h, s)
+-- two answers with the same number are the same
+pub refused-same : (a b : Result Unit Refusal) → refused a ≡ refused b → a ≡ b
+refused-same (Ok u) (Ok v) e = refl
+refused-same (Ok u) (Err r) e = absurd (number-positive r (sym e))
+refused-same (Err r) (Ok u) e = absurd (number-positive r e)
+refused-same (Err r) (Err s) e = ap Err (sym (named-number r) ∙ ap named e ∙ named-number s)
 
--- right sizes are right lengths
-pub lengths_right : (N M : ℕ) (l : Lent) (b : Bool) → b ≡ (within_limits N M && sized N M l) → not b ≡ false → sized N M l ≡ true
-lengths_right N M l b e h = (both (within_limits N M) (sized N M l) (sym e ∙ not-false b h)).1
+-- ---- lists that are sound have what the checks ask
 
 module _ (N M : ℕ) (l : Lent) (w : Sound N M l) where
   pub slots_within : within (bit_words N) N (slot_bits N l.globals) ≡ true
@@ -241,80 +261,81 @@ module _ (N M : ℕ) (l : Lent) (w : Sound N M l) where
   unfolding tables_of participant_of
   held-within p h = let t = tables_of N M l in bag-len-small N M (t.own p).held (t.held p) ((facts N M t w.range).held p h)
 
--- a bag is part of its row, and a row of one of n participants is part of the list
-pub bag-inside : (n p k len : ℕ) → p < n → n * 64 ≤ len → k ≤ 64 → p * 64 + k ≤ len
-bag-inside n p k len h fits few = omega arith
+pub passed : (N M : ℕ) (l : Lent) → Sound N M l → Passed N M l
+unfolding bit_words
+passed N M l w =
+    let t = limits-small N M w.limits in
+    let s = sized_is N M l w.lengths in
+    record {
+      slots = t.1.0;
+      nodes = t.1.1.1;
+      slot_words = refl;
+      node_words = refl;
+      globals = s.globals;
+      participants = s.participants;
+      held = s.held;
+      slots_within = slots_within N M l w;
+      nodes_within = nodes-within N M l w;
+      bags_within = held-within N M l w;
+    }
 
--- a participant's link is the second word of its row
-pub next_cell : (ps : List ℕ) (p : ℕ) → cell participant_words ps p 1 ≡ get_or ps (p * 21 + 1) 0
-unfolding participant_words
-next_cell ps p = cell_in 21 ps p 1 (omega arith)
+-- of a check that refuses for what `damage_of` does
+pub passed_if : (N M : ℕ) (l : Lent) (r : Result Unit Refusal) → refused r ≡ damage_of N M l → IfOk r (λ u. Passed N M l)
+passed_if N M l (Ok u) e = passed N M l (damage_none N M l (sym e))
+passed_if N M l (Err r) e = tt
 
--- refused for sizes or ranges: k is what was found; or not, and then r decides
-first_refused : (N M : ℕ) (l : Lent) (cs : List Check) (k : ℕ) → k ≡ damage_of N M l → (k ≡ 0 → ⊥)
-    → Checked.Refused k ≡ checked_of (sized_first N M l (refusal (check 1 (damaged N M (tables_of N M l)) ∷ cs)))
-unfolding checked_of branch
-first_refused N M l cs k e ne = rw (damage_first N M l cs (λ z. ne (e ∙ z)), ← e, ne_eqb k 0 ne)
+-- ---- the refusals, one check after another
 
-then_rest : (N M : ℕ) (l : Lent) (cs : List Check) (r : ℕ) → damage_of N M l ≡ 0 → r ≡ refusal cs
-    → checked_of r ≡ checked_of (sized_first N M l (refusal (check 1 (damaged N M (tables_of N M l)) ∷ cs)))
-then_rest N M l cs r e h = ap checked_of (h ∙ sym (damage-after N M l cs e))
+branch_not : (b : Bool) (x y : ℕ) → branch (not b) x y ≡ branch b y x
+unfolding branch
+branch_not true x y = refl
+branch_not false x y = refl
 
-module _ (N M : ℕ) (l : Lent) (k : ℕ) (e : k ≡ damage_of N M l) where
-  pub step_first : (places p : ℕ) → (k ≡ 0 → ⊥) → Checked.Refused k ≡ checked_of (step_refusal N M l places p)
-  unfolding step_refusal step_checks
-  step_first places p ne = first_refused N M l (step_rest N M places p (tables_of N M l)) k e ne
+-- the first of a call's checks
+call-first : (gone busy full above again short : Bool) (lack : ℕ)
+    → refusal (check 3 gone ∷ check 4 busy ∷ check lack (not (eqb lack 0))
+    ∷ check 8 full ∷ check 9 above ∷ check 16 again ∷ check 11 short ∷ [])
+    ≡ branch gone 3 (branch busy 4 (branch (eqb lack 0) (branch full 8 (branch above 9 (branch again 16 (branch short 11 0)))) lack))
+unfolding refusal
+call-first gone busy full above again short lack =
+    ap (λ (k : ℕ). branch gone 3 (branch busy 4 k)) (branch_not (eqb lack 0) lack (branch full 8 (branch above 9 (branch again 16 (branch short 11 0)))))
 
-  pub step_then : (places p r : ℕ) → k ≡ 0 → r ≡ refusal (step_rest N M places p (tables_of N M l)) → checked_of r ≡ checked_of (step_refusal N M l places p)
-  unfolding step_refusal step_checks
-  step_then places p r z h = then_rest N M l (step_rest N M places p (tables_of N M l)) r (sym e ∙ z) h
+module _ (N M : ℕ) (l : Lent) where
+  -- damage first
+  abbrev then_check : ℕ → ℕ
+  then_check k = branch (eqb (damage_of N M l) 0) k (damage_of N M l)
 
-  pub call_first : (p : ℕ) (c : Call) → (k ≡ 0 → ⊥) → Checked.Refused k ≡ checked_of (call_refusal N M l p c)
-  unfolding call_refusal call_checks
-  call_first p c ne = first_refused N M l (call_rest N M p c (tables_of N M l)) k e ne
+  damage-then : (cs : List Check) → sized_first N M l (refusal (check 1 (damaged N M (tables_of N M l)) ∷ cs)) ≡ then_check (refusal cs)
+  unfolding damage_of damaged refusal branch
+  damage-then cs = by (within_limits N M && sized N M l) (in_range N M (tables_of N M l))
+    where
+      by : (b c : Bool) → ◌≡◌ {A = ℕ} (branch b (branch (not c) 1 (refusal cs)) 2)
+          (branch (eqb (branch b (branch c 0 1) 2) 0) (refusal cs) (branch b (branch c 0 1) 2))
+      by true true = refl
+      by true false = refl
+      by false c = refl
 
-  pub call_then : (p : ℕ) (c : Call) (r : ℕ) → k ≡ 0 → r ≡ refusal (call_rest N M p c (tables_of N M l)) → checked_of r ≡ checked_of (call_refusal N M l p c)
-  unfolding call_refusal call_checks
-  call_then p c r z h = then_rest N M l (call_rest N M p c (tables_of N M l)) r (sym e ∙ z) h
-
-  pub register_first : (k ≡ 0 → ⊥) → Checked.Refused k ≡ checked_of (register_refusal N M l)
-  unfolding register_refusal register_checks
-  register_first ne = first_refused N M l (register_rest N M (tables_of N M l)) k e ne
-
-  pub register_then : (free r : ℕ) → k ≡ 0 → free ≡ count N (slot_bits N l.globals) → r ≡ branch (eqb free 0) 10 0
-      → checked_of r ≡ checked_of (register_refusal N M l)
+  pub register_numbers : register_refusal N M l ≡ then_check (branch (eqb (count N (slot_bits N l.globals)) 0) 10 0)
   unfolding register_refusal register_checks refusal tables_of
-  register_then free r z f h = then_rest N M l (register_rest N M (tables_of N M l)) r (sym e ∙ z) (h ∙ rw f)
+  register_numbers = damage-then (register_rest N M (tables_of N M l))
 
--- a step and a call of an index that is not below N
-pub step_out : (N M places p : ℕ) (t : Tables) (r : ℕ) → N ≤ p
-    → r ≡ refusal (check 12 (ltb places 64) ∷ check 3 true ∷ check 5 false ∷ check 1 false ∷ []) → r ≡ refusal (step_rest N M places p t)
-unfolding refusal branch absent max_objects
-step_out N M places p t r h e = e ∙ rw (le-leb N p h)
+  pub step_numbers : (places p : ℕ) → let t = tables_of N M l in
+      step_refusal N M l places p
+      ≡ then_check (branch (ltb places 64) 12 (branch (absent N M p t) 3 (branch (is_rest (the p t).place) 5 (branch (missing N M p t) 1 0))))
+  unfolding step_refusal step_checks refusal max_objects running
+  step_numbers places p =
+      let rest = not_not (is_rest (the p (tables_of N M l)).place) in
+      rw rest (rw rest at (damage-then (step_rest N M places p (tables_of N M l))))
 
-pub call_out : (N M p : ℕ) (c : Call) (t : Tables) (r : ℕ) → N ≤ p
-    → r ≡ refusal (check 3 true ∷ check 4 false ∷ check 0 (not (eqb 0 0)) ∷ check 8 false ∷ check 9 false ∷ check 16 false ∷ check 11 false ∷ []) → r ≡ refusal (call_rest N M p c t)
-unfolding refusal branch absent
-call_out N M p c t r h e = e ∙ rw (le-leb N p h)
-
--- and of one that is
-module _ (N M : ℕ) (l : Lent) (p : ℕ) (o : Participant) (resting gone : Bool) (free : ℕ) (h : p < N) (is : o ≡ row l.participants p)
-    (rest : resting ≡ is_rest o.place)
-    (lost : gone ≡ (slot_bits N l.globals p || (is_tagged (cell participant_words l.participants p 1) && resting)))
-    (nodes : free ≡ count M (node_bits N M l.globals)) where
-  pub step_in : (places : ℕ) (taking : Bool) (r : ℕ) → taking ≡ takes_node o.place
-      → r ≡ refusal (check 12 (ltb places 64) ∷ check 3 gone ∷ check 5 resting ∷ check 1 (taking && (eqb free 0 || eqb o.share 0)) ∷ [])
-      → r ≡ refusal (step_rest N M places p (tables_of N M l))
-  unfolding absent missing running tables_of shared_from max_objects
-  step_in places taking r takes e =
-      e ∙ rw (lost, takes, nodes, rest, is, lt-leb N p h, not_not (is_rest (row l.participants p).place))
-
-  pub call_in : (c : Call) (lack : ℕ) (full above again : Bool) (need : ℕ) (short : Bool) (r : ℕ) → o.held ≤ 64
-      → lack ≡ lacks c o → full ≡ count_full c o → above ≡ token_above c → again ≡ held_already c (items o.held (words_at l.held (p * 64)))
-      → need ≡ needs N c o → short ≡ ltb free (get_or l.globals 4 0 + need)
-      → r ≡ refusal (check 3 gone ∷ check 4 (not resting) ∷ check lack (not (eqb lack 0)) ∷ check 8 full ∷ check 9 above ∷ check 16 again ∷ check 11 short ∷ [])
-      → r ≡ refusal (call_rest N M p c (tables_of N M l))
-  unfolding absent no_node running twice tables_of shared_from
-  call_in c lack full above again need short r few a b d w f g e =
-      let own = w ∙ ap (held_already c) (sym (held-items l.held p o.held few)) in
-      e ∙ rw (lost, a, b, d, own, g, f, nodes, rest, is, lt-leb N p h, not_not (is_rest (row l.participants p).place))
+  pub call_numbers : (p : ℕ) (c : Call) → let t = tables_of N M l in
+      call_refusal N M l p c
+      ≡ then_check (branch (absent N M p t) 3 (branch (not (is_rest (the p t).place)) 4
+      (branch (eqb (lacks c (the p t)) 0)
+      (branch (count_full c (the p t)) 8 (branch (token_above c) 9 (branch (twice p c t) 16
+      (branch (ltb (count M (node_bits N M l.globals)) (get_or l.globals 4 0 + needs N c (the p t))) 11 0))))
+      (lacks c (the p t)))))
+  unfolding call_refusal call_checks refusal running no_node tables_of
+  call_numbers p c =
+      let t = tables_of N M l in
+      damage-then (call_rest N M p c t) ∙ ap then_check
+      (call-first (absent N M p t) (running p t) (count_full c (the p t)) (token_above c) (twice p c t) (no_node N M p c t) (lacks c (the p t)))

@@ -1,2 +1,3 @@
 -- What the promises of `checks` cite beside the definition.
 pub mod Refusals
+pub mod Passed

@@ -11,11 +11,6 @@ use Rattle.definition.specs.Ranges.{within_limits, in_range}
 use Rattle.definition.specs.Tables.{Tables}
 use Rattle.definition.specs.declared.Call.{Call}
 use Rattle.definition.specs.declared.Participant.{Participant}
-use Rattle.checks.specs.declared.Checked.{Checked}
-
--- a number of a refusal, as the answer of a check
-unfoldable pub checked_of : ℕ → Checked
-checked_of k = branch (eqb k 0) Checked.Fine (Checked.Refused k)
 
 module _ (N M : ℕ) (l : Lent) where
   -- 2: sizes; then the first of the checks

@@ -1,7 +1,8 @@
 // internal.rs, the counts of a `Local`: three `Cell`s there, one small record here, changed where it stands.
 //
 // `set_guards`, `set_handles` and `set_pins` are `guard_count.set(..)`, `handle_count.set(..)` and `pin_count.set(..)`. Each is lent the
-// record and promises all three fields at exit. `counting` lends them the record of a participant, in its place.
+// record and promises all three fields at exit. (Functions, and not methods: document 01 names the form, a struct of counts lent by `&mut` to
+// two or three thin functions.) `counting` lends them the record of a participant, in its place.
 #![tactic(auto)]
 
 ghost use Rattle.std.specs.Prelude.{◌≡◌};

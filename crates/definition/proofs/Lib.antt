@@ -1,5 +1,6 @@
 pub mod Base
 pub mod Codec
+pub mod Preds
 pub mod Lists
 pub mod Needs
 pub mod Within

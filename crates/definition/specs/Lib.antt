@@ -9,6 +9,7 @@ pub mod List
 pub mod Queue
 pub mod Internal
 pub mod Codec
+pub mod Preds
 pub mod Step
 pub mod Calls
 pub mod Ranges

@@ -1,6 +1,11 @@
 // The words in which the definition of the stepped reclaimer is written, and in which its code is written too: indices, pointers,
-// places and what each carries, accesses, answers. Types only. What they mean is defined in specs/, from crossbeam-epoch 0.9.21.
+// places and what each carries, accesses, answers. Types, and the conversions between them. What they mean is defined in specs/, from
+// crossbeam-epoch 0.9.21.
 #![tactic(auto)]
+
+ghost use Rattle.std.specs.Prelude.{◌≡◌};
+ghost use Rattle.definition.specs.Codec.{owner_number};
+ghost use Rattle.definition.specs.Preds.{ptr_of_pred, pred_of_ptr};
 
 use epoch::Epoch;
 
@@ -26,6 +31,29 @@ pub enum Pred {
     Entry(Slot),
 }
 
+// A predecessor as a pointer, the head as null: how it stands in a table.
+impl From<Pred> for Ptr {
+    ghost from_gives = { λ q r. r ≡ ptr_of_pred q };
+
+    fn from(q: Pred) -> Ptr {
+        match q {
+            Pred::Head => Ptr::Null,
+            Pred::Entry(s) => Ptr::At(s),
+        }
+    }
+}
+
+impl From<Ptr> for Pred {
+    ghost from_gives = { λ q r. r ≡ pred_of_ptr q };
+
+    fn from(q: Ptr) -> Pred {
+        match q {
+            Ptr::Null => Pred::Head,
+            Ptr::At(s) => Pred::Entry(s),
+        }
+    }
+}
+
 // list.rs, `Iter`: where an iteration stands.
 #[derive(Clone, Copy)]
 pub struct Cursor {
@@ -47,6 +75,20 @@ pub enum Owner {
     Pin,
     Flush,
     Finalize,
+}
+
+// An owner's number in a table.
+#[tactic(auto, unfolding(crate::specs::Codec::owner_number))]
+impl From<Owner> for u64 {
+    ghost from_gives = { λ k n. n ≡ owner_number k };
+
+    fn from(k: Owner) -> u64 {
+        match k {
+            Owner::Pin => 0,
+            Owner::Flush => 1,
+            Owner::Finalize => 2,
+        }
+    }
 }
 
 // internal.rs, `Global::try_advance`: whose it is, and the epoch that it loaded.
@@ -164,7 +206,7 @@ pub struct Participant {
 }
 
 // A place as it stands in a table: its number, and what it carries, one meaning to a column; zero where it carries nothing.
-#[derive(Clone, Copy)]
+#[derive(Clone, Copy, PartialEq, Eq)]
 pub struct Code {
     pub number: u64,
     pub then: u64,

@@ -1,7 +1,7 @@
 -- A registration on lent lists that passed the checks: it may be made, and the lists hold the definition's tables afterwards. Assumes nothing.
-use mathlib.Core.Path.{◌≡◌, refl, ap, sym, ◌∙◌}
+use mathlib.Core.Path.{◌≡◌, refl, ap, sym, subst, ◌∙◌}
 use mathlib.Core.Bool.{false}
-use mathlib.Core.List.{List, []}
+use mathlib.Core.List.{[]}
 use Prim.Native.Nat.{ℕ, ◌+◌, ◌*◌, ◌^◌, ◌≤◌, ◌<◌}
 use native.Mathlib.Omega.{arith}
 use lib.ListN.{length, get_or, length-set}
@@ -30,7 +30,7 @@ use Rattle.ranges.proofs.Facts.{facts}
 use Rattle.ranges.specs.Sound.{Sound}
 use Rattle.step.specs.Steps.{Leaves}
 use Rattle.step.proofs.Carry.{lists_are}
-use Rattle.enroll.specs.Enroll.{Enrolls, Enrolled, enrolled_row}
+use Rattle.enroll.specs.Enroll.{Enrolls, Enrolled, enrolled_lent}
 
 -- the tables when slot p is taken
 taken-tables : (N M : ℕ) (l : Lent) → Sized N M l → (p : ℕ) → p < N
@@ -38,7 +38,8 @@ taken-tables : (N M : ℕ) (l : Lent) → Sized N M l → (p : ℕ) → p < N
     ≡ T.with_free (put (tables_of N M l).slot_free p false) (tables_of N M l).node_free (tables_of N M l)
 unfolding tables_of shared_from global_words
 taken-tables N M l s p hp =
-    let early : (j : ℕ) → j < global_words → get_or (taken l.globals global_words p) j 0 ≡ get_or l.globals j 0 = early_mark l.globals global_words p false (omega arith) in
+    let early : (j : ℕ) → j < global_words → get_or (taken l.globals global_words p) j 0 ≡ get_or l.globals j 0 =
+    early_mark l.globals global_words p false (omega arith) in
     λ i. record {
       shared = record {
         global_epoch = early 0 (omega arith) i;
@@ -70,12 +71,16 @@ module _ (N M : ℕ) (l : Lent) (s : Sound N M l) (free : least N (tables_of N M
   size = sized_is N M l s.lengths
 
   -- it may be made
-  pub may_enroll : Enrolls N l.globals l.participants
+  pub may_enroll : Enrolls N l
   unfolding tables_of
   may_enroll =
       let small = limits-small N M s.limits in
       record {
-        bits = record { small = small.1.0; long = rw size.globals (omega arith); inside = sym (bits_in_is N M N tables.slot_free) ∙ (facts N M tables s.range).slots };
+        bits = record {
+          small = small.1.0;
+          long = rw size.globals (omega arith);
+          inside = sym (bits_in_is N M N tables.slot_free) ∙ (facts N M tables s.range).slots;
+        };
         free = free;
         rows = rw size.participants (omega arith);
       }
@@ -93,20 +98,18 @@ module _ (N M : ℕ) (l : Lent) (s : Sound N M l) (free : least N (tables_of N M
   abbrev word : Ask
   word = Ask.Store (Word.ParticipantWord (slot first)) starting
 
-  -- the lists afterwards
-  abbrev pub enrolled_lent : Lent
-  enrolled_lent = lent (taken l.globals global_words first) (enrolled_row first l.participants) l.nodes l.held l.queued
-
-  -- are as long as they were
+  -- the lists afterwards are as long as they were
   next_length : length (write_participants (Word.EntryNext (slot first)) null l.participants) ≡ length l.participants
   unfolding write_participants
   next_length = length-set l.participants (first * 21 + 1) null
 
-  word-length : length (write_participants (Word.ParticipantWord (slot first)) starting (write_participants (Word.EntryNext (slot first)) null l.participants)) ≡ length l.participants
+  word-length : length (write_participants (Word.ParticipantWord (slot first)) starting (write_participants (Word.EntryNext (slot first)) null l.participants))
+      ≡ length l.participants
   unfolding write_participants
   word-length = length-set (write_participants (Word.EntryNext (slot first)) null l.participants) (first * 21) starting ∙ next_length
 
-  pub enrolled-sized : Sized N M enrolled_lent
+  pub enrolled-sized : Sized N M (enrolled_lent N l)
+  unfolding tables_of
   enrolled-sized = record {
     globals = length-marked l.globals global_words first false ∙ size.globals;
     participants = stored_length _ first (record_of new_participant) ∙ word-length ∙ size.participants;
@@ -116,8 +119,8 @@ module _ (N M : ℕ) (l : Lent) (s : Sound N M l) (free : least N (tables_of N M
   }
 
   -- they hold the tables of the definition
-  pub enrolled-tables : tables_of N M enrolled_lent ≡ (enrolled first tables).tables
-  unfolding enrolled left_by write_globals write_nodes leaves
+  pub enrolled-tables : tables_of N M (enrolled_lent N l) ≡ (enrolled first tables).tables
+  unfolding tables_of enrolled left_by write_globals write_nodes leaves
   enrolled-tables =
       stored_tables N M (left_lent word (left_lent next with_slot)) first (record_of new_participant) (rw word-length row_in)
       ∙ ap (T.with_own first (record_of new_participant))
@@ -127,12 +130,11 @@ module _ (N M : ℕ) (l : Lent) (s : Sound N M l) (free : least N (tables_of N M
       ∙ ap (λ (t : Tables). T.with_shared (leaves next t.shared) t) (taken-tables N M l size first free)))
 
   -- what `enroll` promises is the definition's registration
-  pub leaves-enrolled : (r : Answer) (g' ps' n' : List ℕ) → Enrolled N l.globals l.participants l.nodes r g' ps' n'
-      → ((j : ℕ) → get_or g' j 0 < 2 ^ 64) → Leaves N M (enrolled first tables) [] r (lent g' ps' n' l.held l.queued) []
-  unfolding enrolled tables_of
-  leaves-enrolled r g' ps' n' e fits = record {
+  pub leaves-enrolled : (r : Answer) (l' : Lent) → Enrolled N l r l' → Leaves N M (enrolled first tables) [] r l' []
+  unfolding enrolled
+  leaves-enrolled r l' e = record {
     answer = e.answer;
-    lent = (λ i. lent (e.globals i) (e.participants i) (e.nodes i) l.held l.queued)
-        ∙ lists_are N M enrolled_lent (enrolled first tables).tables enrolled-sized enrolled-tables (λ j. rw (← e.globals) (fits j));
+    lent = e.lent ∙ lists_are N M (enrolled_lent N l) (enrolled first tables).tables enrolled-sized enrolled-tables
+        (λ j. subst (λ (l : Lent). get_or l.globals j 0 < 2 ^ 64) e.lent (e.words j));
     freed = refl;
   }

@@ -6,13 +6,17 @@
 // private, and none is an access. All words of the slot's row are written: nothing of its last owner stays.
 #![tactic(auto)]
 
-ghost use Rattle.std.specs.Prelude.{◌≡◌};
+ghost use Rattle.std.specs.Prelude.{◌≡◌, ◌+◌, ◌/◌, ◌^◌, ◌<◌, ℕ, length, slice_index};
+ghost use Rattle.definition.specs.Layout.{global_words};
 ghost use Rattle.definition.specs.Public.{new_participant};
+ghost use Rattle.bits.specs.Bits.{taken};
+ghost use Rattle.lent.specs.Lists.{lent, Same};
 ghost use Rattle.enroll.specs.Enroll.{Free, Enrolls, Enrolled, free_slot};
 
 use bits::{bit_words, first_free, slot_bits_at, take};
 use definition::{Answer, Counts, Participant, Place, RegisterAt, Slot, Word};
 use epoch::Epoch;
+use lent::ListsMut;
 use records::store;
 use words::write_word;
 
@@ -27,42 +31,44 @@ fn free_slot(globals: &[u64], n: usize) -> usize
     first_free(globals, slot_bits_at(), bit_words(n), n)
 }
 
+// Takes slot `p`: it is no longer free. Lent the one list, it can also say that each of it is still a word.
+fn take_slot(globals: &mut [u64], p: usize)
+    requires { global_words + p / 64 < length globals.old }
+    ensures taken { globals.new ≡ taken globals.old global_words p }
+    ensures words { (j : ℕ) → slice_index globals.new j < 2 ^ 64 }
+{
+    take(globals, slot_bits_at(), p);
+}
+
 // Returns a participant that begins to register: one handle, no guard, and nothing in its bag.
+#[tactic(auto, unfolding(definition::specs::Public::new_participant))]
 fn new_participant() -> Participant
     ensures { result ≡ new_participant }
 {
-    let counts = Counts {
-        guards: 0,
-        handles: 1,
-        pins: 0,
-    };
     Participant {
-        counts: counts,
+        counts: Counts {
+            guards: 0,
+            handles: 1,
+            pins: 0,
+        },
         held: 0,
         share: 0,
         place: Place::Register(RegisterAt::Head),
     }
 }
 
-// Registers in the smallest free slot, for `n` participants.
-pub fn enroll(n: usize, globals: &mut [u64], participants: &mut [u64], nodes: &mut [u64]) -> Answer
-    requires { Enrolls n globals.old participants.old }
-    ensures { Enrolled n globals.old participants.old nodes.old
-        result globals.new participants.new nodes.new }
+// Registers in the smallest free slot.
+pub fn enroll(l: &mut ListsMut<'_>) -> Answer
+    requires { Enrolls l.old.n (lent l.old) }
+    ensures enrolled { Enrolled l.old.n (lent l.old) result (lent l.new) }
+    ensures same { Same l.old l.new }
 {
-    let p = free_slot(globals, n);
+    let n = l.n;
+    let p = free_slot(l.read().globals, n);
     let me = Slot(p as u64);
-    take(globals, slot_bits_at(), p);
-    write_word(globals, participants, nodes, Word::EntryNext(me), NULL);
-    let epoch = Epoch::starting();
-    write_word(
-        globals,
-        participants,
-        nodes,
-        Word::ParticipantWord(me),
-        epoch.0,
-    );
-    let new = new_participant();
-    store(participants, p, new);
+    take_slot(l.globals, p);
+    write_word(l, Word::EntryNext(me), NULL);
+    write_word(l, Word::ParticipantWord(me), Epoch::starting().0);
+    store(l.participants, p, new_participant());
     Answer::More(0)
 }

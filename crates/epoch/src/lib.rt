@@ -12,7 +12,7 @@ ghost use Rattle.std.specs.Prelude.{◌≡◌};
 ghost use Rattle.epoch.specs.Epoch.{starting, wrapping_sub, signed, is_pinned, pinned, unpinned, successor};
 
 // An epoch that can be marked as pinned or unpinned. A type of its own, so that a word is not taken for an index of a table.
-#[derive(Clone, Copy)]
+#[derive(Clone, Copy, PartialEq, Eq)]
 pub struct Epoch(pub u64);
 
 impl Epoch {

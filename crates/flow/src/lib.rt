@@ -8,18 +8,15 @@
 pub mod links; // links.rt: pointers as words
 
 ghost use Rattle.std.specs.Prelude.{◌≡◌};
-ghost use Rattle.definition.specs.Base.{branch};
 ghost use Rattle.definition.specs.Bags.{places_left, is_expired};
-ghost use Rattle.definition.specs.declared.Deferring.{Deferring};
-ghost use Rattle.definition.specs.declared.Then.{Then};
-ghost use Rattle.definition.specs.Flow.{counting, holding, sharing, on, done, also, finalize, collected, pops, advanced, walk, waiting, placed, defer, pushed};
+ghost use Rattle.definition.specs.Flow.{holding, sharing, on, done, also, finalize, collected, pops, advanced, walk, waiting, placed, defer, pushed};
 
+use counts::{counting, set_guards};
 use definition::{
     After, Cursor, Deferring, End, Item, Node, Owner, Participant, Place, PopAt, Pops, Pred, Ptr,
     PushAt, Then, Try, WalkAt, Work,
 };
 use epoch::Epoch;
-use links::one_fewer;
 
 // internal.rs, `Bag`: deferred functions, which wait in the lent tables. What is left of the type is its size.
 #[derive(Clone, Copy)]
@@ -30,14 +27,11 @@ impl Bag {
     pub const MAX_OBJECTS: u64 = 64;
 
     // Returns the places left in a bag of this length (document 02, No. 9): what putting an item answers with, and a `defer` is done with.
+    #[tactic(auto, unfolding(definition::specs::Bags::max_objects, definition::specs::Bags::places_left))]
     pub fn places_left(len: u64) -> u64
         ensures { result ≡ places_left len }
     {
-        if len < Bag::MAX_OBJECTS {
-            Bag::MAX_OBJECTS - len
-        } else {
-            0
-        }
+        Bag::MAX_OBJECTS.saturating_sub(len)
     }
 }
 
@@ -54,8 +48,7 @@ impl SealedBag {
     {
         // A pinned participant can witness at most one epoch advancement. Therefore, any bag that is within one epoch of the current one
         // cannot be destroyed yet.
-        let sealed = self.epoch;
-        global.wrapping_sub(sealed) >= 2
+        global.wrapping_sub(self.epoch) >= 2
     }
 }
 
@@ -89,76 +82,42 @@ impl Deferred {
     pub const MAX_TOKEN: u64 = 2_147_483_647;
 }
 
-// The one or the other. Both are worked out before, so the choice is by value.
-pub fn pick_after(b: bool, x: After, y: After) -> After
-    ensures { result ≡ branch b x y }
-{
-    if b { x } else { y }
-}
-
-// The participant with other counts: `counts` changes them where they stand.
-pub fn counting(guards: u64, handles: u64, pins: u64, o: Participant) -> Participant
-    ensures { result ≡ counting guards handles pins o }
-{
-    counts::counting(guards, handles, pins, o)
-}
-
 // The participant with a bag of another length.
 pub fn holding(held: u64, o: Participant) -> Participant
     ensures { result ≡ holding held o }
 {
-    let counts = o.counts;
-    let place = o.place;
-    Participant {
-        counts: counts,
-        held: held,
-        share: o.share,
-        place: place,
-    }
+    Participant { held, ..o }
 }
 
 // The participant with another share of the nodes set aside.
 pub fn sharing(share: u64, o: Participant) -> Participant
     ensures { result ≡ sharing share o }
 {
-    let counts = o.counts;
-    let place = o.place;
-    Participant {
-        counts: counts,
-        held: o.held,
-        share: share,
-        place: place,
-    }
+    Participant { share, ..o }
 }
 
 // The operation stands before its next access.
+#[tactic(auto, unfolding(definition::specs::Flow::on))]
 pub fn on(place: Place, o: Participant) -> After
     ensures { result ≡ on place o }
 {
-    let counts = o.counts;
     After {
-        participant: Participant {
-            counts: counts,
-            held: o.held,
-            share: o.share,
-            place: place,
-        },
+        participant: Participant { place, ..o },
         work: Work::Nothing,
         end: End::GoesOn,
     }
 }
 
 // The operation ends; what is left of its nodes is given back.
+#[tactic(auto, unfolding(definition::specs::Flow::done))]
 pub fn done(value: u64, o: Participant) -> After
     ensures { result ≡ done value o }
 {
-    let counts = o.counts;
     After {
         participant: Participant {
-            counts: counts,
-            held: o.held,
             share: 0,
             place: Place::Rest,
+            ..o
         },
         work: Work::Nothing,
         end: End::EndsWith(value),
@@ -166,55 +125,49 @@ pub fn done(value: u64, o: Participant) -> After
 }
 
 // The same, with work besides.
+#[tactic(auto, unfolding(definition::specs::Flow::also))]
 pub fn also(work: Work, a: After) -> After
     ensures { result ≡ also work a }
 {
-    let participant = a.participant;
-    let end = a.end;
-    After {
-        participant: participant,
-        work: work,
-        end: end,
-    }
+    After { work, ..a }
 }
 
 // internal.rs, `Local::finalize` up to its first access. The handle count is 1 meanwhile, so that the `pin` inside does not finalize
 // again; that `pin` counts its guard.
+#[tactic(auto, unfolding(definition::specs::Flow::finalize))]
 pub fn finalize(o: Participant) -> After
     ensures { result ≡ finalize o }
 {
-    let counts = o.counts;
-    let n = counting(1, 1, counts.pins, o);
+    let n = counting(1, 1, o.counts.pins, o);
     on(Place::PinEpoch(Owner::Finalize), n)
 }
 
 // internal.rs, `Global::collect` returns: `pin` and `flush` are over; the `pin` of `finalize` goes on with `push_bag`, even when the bag
 // is empty.
+#[tactic(auto, unfolding(definition::specs::Flow::collected))]
 pub fn collected(owner: Owner, o: Participant) -> After
     ensures { result ≡ collected owner o }
 {
     match owner {
-        Owner::Pin => done(0, o),
-        Owner::Flush => done(0, o),
+        Owner::Pin | Owner::Flush => done(0, o),
         Owner::Finalize => on(Place::Push(Then::Finalize, PushAt::Epoch), o),
     }
 }
 
 // internal.rs, `Global::collect`, `for _ in 0..steps`: another pop where some are left.
+#[tactic(auto, unfolding(definition::specs::Base::branch, definition::specs::Flow::pops))]
 pub fn pops(owner: Owner, epoch: Epoch, left: u64, o: Participant) -> After
     ensures { result ≡ pops owner epoch left o }
 {
-    let none = collected(owner, o);
-    let p = Pops {
-        owner: owner,
-        epoch: epoch,
-        left: left,
-    };
-    let another = on(Place::Pop(p, PopAt::Head), o);
-    pick_after(left == 0, none, another)
+    if left == 0 {
+        collected(owner, o)
+    } else {
+        on(Place::Pop(Pops { owner, epoch, left }, PopAt::Head), o)
+    }
 }
 
 // internal.rs, `Global::try_advance` returns an epoch, and the loop of `collect` begins.
+#[tactic(auto, unfolding(definition::specs::Flow::advanced, definition::specs::Flow::collect_steps))]
 pub fn advanced(owner: Owner, epoch: Epoch, o: Participant) -> After
     ensures { result ≡ advanced owner epoch o }
 {
@@ -222,107 +175,74 @@ pub fn advanced(owner: Owner, epoch: Epoch, o: Participant) -> After
 }
 
 // list.rs, `Iter::next`: the end of the list ends the iteration, and every pinned participant was pinned in the loaded epoch.
+#[tactic(auto, unfolding(definition::specs::Flow::walk))]
 pub fn walk(t: Try, pred: Pred, curr: Ptr, o: Participant) -> After
     ensures { result ≡ walk t pred curr o }
 {
     match curr {
         Ptr::Null => on(Place::AdvanceStore(t), o),
-        Ptr::At(entry) => {
-            let c = Cursor {
-                pred: pred,
-                curr: entry,
-            };
-            on(Place::Walk(t, WalkAt::Next(c)), o)
-        }
+        Ptr::At(curr) => on(Place::Walk(t, WalkAt::Next(Cursor { pred, curr })), o),
     }
 }
 
 // The item that waits to be put into the bag.
+#[tactic(auto, unfolding(definition::specs::Flow::waiting))]
 pub fn waiting(d: Deferring) -> Item
     ensures { result ≡ waiting d }
 {
     match d {
         Deferring::Token(token) => Item::Token(token),
-        Deferring::Slot(_, c, _) => {
-            let curr = c.curr;
-            Item::Slot(curr)
-        }
+        Deferring::Slot(_, Cursor { curr, .. }, _) => Item::Slot(curr),
         Deferring::Node(_, head, _) => Item::Node(head),
     }
 }
 
-// A token is in the bag: `defer` is over, and says how many places are left.
-fn placed_token(token: u64, o: Participant) -> After
-    ensures { result ≡ placed (Deferring.Token token) o }
-{
-    let item = waiting(Deferring::Token(token));
-    let left = Bag::places_left(o.held);
-    let over = done(left, o);
-    also(Work::Put(item), over)
-}
-
-// An unlinked slot is in the bag: list.rs, `Iter::next` moves over it by advancing `curr` alone.
-fn placed_slot(t: Try, c: Cursor, succ: Ptr, o: Participant) -> After
-    ensures { result ≡ placed (Deferring.Slot t c succ) o }
-{
-    let item = waiting(Deferring::Slot(t, c, succ));
-    let pred = c.pred;
-    let next = walk(t, pred, succ, o);
-    also(Work::Put(item), next)
-}
-
-// An old head is in the bag: queue.rs, `pop_if_internal` returns the bag in `next`, which is dropped only now, and one pop fewer is left.
-fn placed_node(p: Pops, head: Node, next: Node, o: Participant) -> After
-    ensures { result ≡ placed (Deferring.Node p head next) o }
-{
-    let item = waiting(Deferring::Node(p, head, next));
-    let owner = p.owner;
-    let epoch = p.epoch;
-    let left = one_fewer(p.left);
-    let more = pops(owner, epoch, left, o);
-    also(Work::PutThenFree(item, next), more)
-}
-
 // The item is in the bag, and who deferred it goes on.
+#[tactic(auto, unfolding(definition::specs::Flow::placed))]
 pub fn placed(d: Deferring, o: Participant) -> After
     ensures { result ≡ placed d o }
 {
+    let item = waiting(d);
     match d {
-        Deferring::Token(token) => placed_token(token, o),
-        Deferring::Slot(t, c, succ) => placed_slot(t, c, succ, o),
-        Deferring::Node(p, head, next) => placed_node(p, head, next, o),
+        // A token: `defer` is over, and says how many places are left.
+        Deferring::Token(_) => also(Work::Put(item), done(Bag::places_left(o.held), o)),
+        // An unlinked slot: list.rs, `Iter::next` moves over it by advancing `curr` alone.
+        Deferring::Slot(t, Cursor { pred, .. }, succ) => {
+            also(Work::Put(item), walk(t, pred, succ, o))
+        }
+        // An old head: queue.rs, `pop_if_internal` returns the bag in `next`, which is dropped only now, and one pop fewer is left.
+        Deferring::Node(Pops { owner, epoch, left }, _, next) => also(
+            Work::PutThenFree(item, next),
+            pops(owner, epoch, left.saturating_sub(1), o),
+        ),
     }
 }
 
 // internal.rs, `Local::defer`, `while let Err(d) = bag.try_push(deferred)`: where the bag is full, `push_bag` comes first.
+#[tactic(auto, unfolding(definition::specs::Base::branch, definition::specs::Bags::max_objects, definition::specs::Flow::defer))]
 pub fn defer(d: Deferring, o: Participant) -> After
     ensures { result ≡ defer d o }
 {
-    let held = o.held;
-    if held < Bag::MAX_OBJECTS {
-        let n = holding(held + 1, o);
-        placed(d, n)
+    if o.held < Bag::MAX_OBJECTS {
+        placed(d, holding(o.held + 1, o))
     } else {
         on(Place::Push(Then::Defer(d), PushAt::Epoch), o)
     }
 }
 
-// internal.rs, `Global::push_bag` inside `Local::finalize` returns: the guard is dropped, and `unpin` counts it.
-fn pushed_last(o: Participant) -> After
-    ensures { result ≡ pushed Then.Finalize o }
-{
-    let counts = o.counts;
-    let n = counting(0, counts.handles, counts.pins, o);
-    on(Place::FinalWord, n)
-}
-
-// internal.rs, `Global::push_bag` returns: to the loop of `defer`; to `flush`, which collects; to `finalize`.
+// internal.rs, `Global::push_bag` returns: to the loop of `defer`; to `flush`, which collects; to `finalize`, whose guard is dropped, and
+// `unpin` counts it.
+#[tactic(auto, unfolding(definition::specs::Flow::pushed))]
 pub fn pushed(then: Then, o: Participant) -> After
     ensures { result ≡ pushed then o }
 {
     match then {
         Then::Defer(d) => defer(d, o),
         Then::Flush => on(Place::AdvanceEpoch(Owner::Flush), o),
-        Then::Finalize => pushed_last(o),
+        Then::Finalize => {
+            let mut n = o;
+            set_guards(&mut n.counts, 0);
+            on(Place::FinalWord, n)
+        }
     }
 }

@@ -45,8 +45,10 @@ aside-tables N M l v h =
       own = λ k. record_at (cell participant_words l.participants k);
       held = cell max_objects l.held;
       bag = bag_from l.nodes l.queued;
-      slot_free = bits_same (bit_words N) (λ k. get_or (set l.globals 4 v) (5 + k) 0) (λ k. get_or l.globals (5 + k) 0) (λ j _. other (5 + j) (λ e. omega arith)) i;
-      node_free = bits_same (bit_words M) (λ k. get_or (set l.globals 4 v) (5 + bit_words N + k) 0) (λ k. get_or l.globals (5 + bit_words N + k) 0) (λ j _. other (5 + bit_words N + j) (λ e. omega arith)) i;
+      slot_free = bits_same (bit_words N) (λ k. get_or (set l.globals 4 v) (5 + k) 0) (λ k. get_or l.globals (5 + k) 0)
+          (λ j _. other (5 + j) (λ e. omega arith)) i;
+      node_free = bits_same (bit_words M) (λ k. get_or (set l.globals 4 v) (5 + bit_words N + k) 0) (λ k. get_or l.globals (5 + bit_words N + k) 0)
+          (λ j _. other (5 + bit_words N + j) (λ e. omega arith)) i;
       aside = get_or-set_same l.globals 4 v 0 h i;
     }
 
@@ -95,7 +97,8 @@ module _ (N M p k : ℕ) (l : Lent) (s : Sized N M l) (hp : p < N) where
   pub settled_total : (record_at (cell participant_words l.participants p)).held ≡ k → (w : Work) → Fits N M p k w l
       → get_or (settled_globals N w l.globals l.nodes l.queued) 4 0 ≡ get_or l.globals 4 0
   settled_total held w f =
-      sym (total_of N M (settled_lent N p k w l)) ∙ ap (λ (t : Tables). t.aside) (settled N M p k l s hp held w f) ∙ settle-aside p w (tables_of N M l) ∙ total_of N M l
+      sym (total_of N M (settled_lent N p k w l)) ∙ ap (λ (t : Tables). t.aside) (settled N M p k l s hp held w f)
+      ∙ settle-aside p w (tables_of N M l) ∙ total_of N M l
 
   -- the tokens that come out are the definition's
   pub tokens_same : (w : Work) → Fits N M p k w l → settled_tokens w l.nodes l.queued ≡ freed_by w (tables_of N M l)
@@ -120,14 +123,16 @@ module _ (N M p k : ℕ) (l : Lent) (s : Sized N M l) (hp : p < N) where
         }
 
     -- and they hold the definition's tables
-    pub followed-tables : ((record_at (cell participant_words l.participants p)).held ≡ k) → ((record_at (cell participant_words l.participants p)).share ≡ share)
+    pub followed-tables : ((record_at (cell participant_words l.participants p)).held ≡ k)
+        → ((record_at (cell participant_words l.participants p)).share ≡ share)
         → tables_of N M (followed_lent N p k share a l) ≡ (follow p a (tables_of N M l)).tables
     unfolding aside_globals follow
     followed-tables held shares =
         let done : Lent = settled_lent N p k a.work l in
         let size : Sized N M done = settled_sized a.work f in
         let same : tables_of N M done ≡ settle p a.work (tables_of N M l) = settled N M p k l s hp held a.work f in
-        let total : get_or done.globals 4 0 ≡ (tables_of N M l).aside = sym (total_of N M done) ∙ ap (λ (t : Tables). t.aside) same ∙ settle-aside p a.work (tables_of N M l) in
+        let total : get_or done.globals 4 0 ≡ (tables_of N M l).aside =
+        sym (total_of N M done) ∙ ap (λ (t : Tables). t.aside) same ∙ settle-aside p a.work (tables_of N M l) in
         let own : ((tables_of N M l).own p).share ≡ share = rw (own_of N M l p) shares in
         let record' = record_of a.participant in
         let aside = get_or done.globals 4 0 - share + a.participant.share in

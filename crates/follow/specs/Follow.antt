@@ -32,18 +32,15 @@ followed_lent N p k share a l = record {
 }
 
 -- what is touched is there
-pub record Follows (N p k share : ℕ) (a : After) (g ps n h q f : List ℕ) : Type 0 where
-  pub settles : Settles N p k a.work g n h q f
-  pub aside : SetsAside (settled_globals N a.work g n q) share a.participant.share
-  pub row : p * 21 + 21 ≤ length ps
+pub record Follows (N p k share : ℕ) (a : After) (l : Lent) (f : List ℕ) : Type 0 where
+  pub settles : Settles N p k a.work l f
+  pub aside : SetsAside (settled_globals N a.work l.globals l.nodes l.queued) share a.participant.share
+  pub row : p * 21 + 21 ≤ length l.participants
   pub pointers : PointersFit (code_of a.participant.place)
 
--- it was carried out
-pub record Followed (N p k share : ℕ) (a : After) (g ps n h q f : List ℕ) (r : Answer) (g' ps' n' h' q' f' : List ℕ) : Type 0 where
-  pub answer : r ≡ answer_of a.end (length (settled_tokens a.work n q))
-  pub globals : g' ≡ followed_globals N share a g n q
-  pub participants : ps' ≡ stored_record ps p (record_of a.participant)
-  pub nodes : n' ≡ settled_nodes k a.work n
-  pub held : h' ≡ settled_held p k a.work h
-  pub queued : q' ≡ settled_queued p k a.work h q
-  pub freed : f' ≡ filled (settled_tokens a.work n q) f
+-- it was carried out. That each of `globals` is a word is what the free bits in it are read by
+pub record Followed (N p k share : ℕ) (a : After) (l : Lent) (f : List ℕ) (r : Answer) (l' : Lent) (f' : List ℕ) : Type 0 where
+  pub answer : r ≡ answer_of a.end (length (settled_tokens a.work l.nodes l.queued))
+  pub lent : l' ≡ followed_lent N p k share a l
+  pub words : (j : ℕ) → get_or l'.globals j 0 < 2 ^ 64
+  pub freed : f' ≡ filled (settled_tokens a.work l.nodes l.queued) f

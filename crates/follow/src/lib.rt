@@ -2,15 +2,18 @@
 // `follow` (specs/Step), whose tables these lists hold afterwards: proofs/Laws.
 #![tactic(auto)]
 
-ghost use Rattle.std.specs.Prelude.{◌≡◌};
+ghost use Rattle.std.specs.Prelude.{◌≡◌, ◌<◌, ◌^◌, ℕ, slice_index};
 ghost use Rattle.definition.specs.Step.{answer_of};
+ghost use Rattle.lent.specs.Lists.{lent, Same};
 ghost use Rattle.follow.specs.Follow.{SetsAside, aside_globals, Follows, Followed};
 
 use definition::{After, Answer, End};
+use lent::{ASIDE, ListsMut};
 use records::store;
 use settle::settle;
 
 // Returns the answer of an operation that goes on or ends, with the number of tokens freed.
+#[tactic(auto, unfolding(definition::specs::Step::answer_of))]
 fn answer_of(end: End, freed: u64) -> Answer
     ensures { result ≡ answer_of end freed }
 {
@@ -21,36 +24,35 @@ fn answer_of(end: End, freed: u64) -> Answer
 }
 
 // Adds to the set-aside total what the share of an operation gained, and takes off what it lost.
+#[tactic(auto, unfolding(crate::specs::Follow::aside_globals))]
 fn set_aside(globals: &mut [u64], before: u64, after: u64)
     requires { SetsAside globals.old before after }
-    ensures { globals.new ≡ aside_globals globals.old before after }
+    ensures moved { globals.new ≡ aside_globals globals.old before after }
+    ensures words { (j : ℕ) → slice_index globals.new j < 2 ^ 64 }
 {
-    let aside = globals[4];
-    globals[4] = aside - before + after;
+    globals[ASIDE] = globals[ASIDE] - before + after;
 }
 
-// Carries out what follows for participant `p`, who held `k` items and had a share of `share` nodes, for `n` participants.
+// Carries out what follows for participant `p`, who held `k` items and had a share of `share` nodes.
 pub fn follow(
-    n: usize,
-    globals: &mut [u64],
-    participants: &mut [u64],
-    nodes: &mut [u64],
-    held: &mut [u64],
-    queued: &mut [u64],
+    l: &mut ListsMut<'_>,
     p: usize,
     k: usize,
     share: u64,
-    a: After,
+    after: After,
     freed: &mut [u64],
 ) -> Answer
-    requires { Follows n p k share a globals.old participants.old nodes.old held.old queued.old freed.old }
-    ensures { Followed n p k share a globals.old participants.old nodes.old held.old queued.old freed.old result globals.new participants.new nodes.new held.new queued.new freed.new }
+    requires { Follows l.old.n p k share after (lent l.old) freed.old }
+    ensures followed { Followed l.old.n p k share after (lent l.old) freed.old result (lent l.new) freed.new }
+    ensures same { Same l.old l.new }
 {
-    let work = a.work;
-    let end = a.end;
-    let next = a.participant;
-    let count = settle(n, globals, nodes, held, queued, p, k, work, freed);
-    set_aside(globals, share, next.share);
-    store(participants, p, next);
+    let After {
+        work,
+        end,
+        participant,
+    } = after;
+    let count = settle(l, p, k, work, freed);
+    set_aside(l.globals, share, participant.share);
+    store(l.participants, p, participant);
     answer_of(end, count)
 }

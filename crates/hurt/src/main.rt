@@ -8,232 +8,139 @@
 // changed no word is looked at here, word by word.
 #![tactic(auto)]
 
-ghost use Rattle.std.specs.Prelude.{◌≡◌, ◌+◌, ◌<◌, ◌≤◌, length};
-ghost use Rattle.hurt.specs.Hurt.{Fits};
+ghost use Rattle.std.specs.Prelude.{◌+◌, ◌<◌, ◌≤◌, length};
 
 use definition::{Answer, Call};
+use lent::{BAG_WORDS, GLOBAL_WORDS, ListsMut, NODE_WORDS, PARTICIPANT_WORDS};
 use script::Action;
 use std::io::{self, Write};
 
-// The sizes of the tables, and the words of all five lists, one list after another.
+// The sizes of the tables.
 const N: usize = 3;
 
 const M: usize = 4;
 
-const WORDS: usize = 530;
+// Where each list begins among the words of all five, one list after another, and how many words there are.
+const PARTICIPANTS: usize = GLOBAL_WORDS + 2;
+
+const NODES: usize = PARTICIPANTS + N * PARTICIPANT_WORDS;
+
+const HELD: usize = NODES + M * NODE_WORDS;
+
+const QUEUED: usize = HELD + N * BAG_WORDS;
+
+const WORDS: usize = QUEUED + M * BAG_WORDS;
+
+// The cases of a moment: each word is changed four ways, and then each word of `held` three.
+const CHANGED: usize = 4 * WORDS;
+
+const CASES: usize = CHANGED + 3 * N * BAG_WORDS;
 
 // A moment of a run is looked at after so many records.
-const EVERY: u64 = 6;
+const EVERY: usize = 6;
 
-// What came of the cases of a moment; `wrong` counts words that a refusal changed.
-#[derive(Clone, Copy)]
-struct Tally {
-    damaged: u64,
-    refused: u64,
-    done: u64,
-    more: u64,
-    wrong: u64,
-    sum: u64,
+// The lists, and the list for freed tokens.
+#[derive(Drop)]
+struct Tables {
+    globals: [u64; PARTICIPANTS],
+    participants: [u64; N * PARTICIPANT_WORDS],
+    nodes: [u64; M * NODE_WORDS],
+    held: [u64; N * BAG_WORDS],
+    queued: [u64; M * BAG_WORDS],
+    freed: [u64; BAG_WORDS],
 }
 
-// ---- one list
+// ---- the lists
 
-// Puts the kept words from `from` on into a list, the word `at` being `v`.
-fn fill(l: &mut [u64], kept: &[u64], from: usize, at: usize, v: u64)
-    requires { from + length l.old ≤ length kept.now }
+// Puts words into the lists, one list after another.
+fn fill(t: &mut Tables, words: &[u64; WORDS]) {
+    t.globals.copy_from_slice(&words[..PARTICIPANTS]);
+    t.participants.copy_from_slice(&words[PARTICIPANTS..NODES]);
+    t.nodes.copy_from_slice(&words[NODES..HELD]);
+    t.held.copy_from_slice(&words[HELD..QUEUED]);
+    t.queued.copy_from_slice(&words[QUEUED..]);
+}
+
+// Returns the words of the lists, one list after another.
+fn words_of(t: &Tables) -> [u64; WORDS] {
+    let mut words = [0; WORDS];
+    keep(&mut words, 0, &t.globals);
+    keep(&mut words, PARTICIPANTS, &t.participants);
+    keep(&mut words, NODES, &t.nodes);
+    keep(&mut words, HELD, &t.held);
+    keep(&mut words, QUEUED, &t.queued);
+    words
+}
+
+// Keeps the words of a list, from `from` on. A function of its own: with five such lines in `words_of`, the bounds of the last three did
+// not close.
+fn keep(words: &mut [u64], from: usize, l: &[u64])
+    requires { from + length l.now ≤ length words.old }
 {
-    let mut j: usize = 0;
-    while j < l.len() {
-        l[j] = hurt(kept[from + j], from + j == at, v);
-        j += 1;
-    }
+    words[from..from + l.len()].copy_from_slice(l);
 }
 
-// Keeps the words of a list, from `from` on.
-fn keep(kept: &mut [u64], from: usize, l: &[u64])
-    requires { from + length l.now ≤ length kept.old }
-{
-    let mut j: usize = 0;
-    while j < l.len() {
-        kept[from + j] = l[j];
-        j += 1;
-    }
-}
-
-// Returns how many words of a list are not what `fill` put there.
-fn changed(l: &[u64], kept: &[u64], from: usize, at: usize, v: u64) -> u64
-    requires { from + length l.now ≤ length kept.now }
-{
-    let mut count: u64 = 0;
-    let mut j: usize = 0;
-    while j < l.len() {
-        let w = hurt(kept[from + j], from + j == at, v);
-        count = std::num::wrapping_add_u64(count, pick(l[j] == w, 0, 1));
-        j += 1;
-    }
-    count
-}
-
-// Returns a checksum with the words of a list added.
-fn sum_list(sum: u64, l: &[u64]) -> u64 {
-    let mut s = sum;
-    let mut j: usize = 0;
-    while j < l.len() {
-        s = mix(s, l[j]);
-        j += 1;
-    }
-    s
-}
-
-// Returns a checksum with a word added, below 2^31 - 1.
-fn mix(sum: u64, w: u64) -> u64 {
-    ((sum % 2147483647) * 257 + w % 2147483647) % 2147483647
-}
-
-// Returns the word, or the other one where it is to be changed.
-fn hurt(w: u64, here: bool, v: u64) -> u64 {
-    pick(here, v, w)
-}
-
-// Returns the first where the test is true, else the second.
-fn pick(b: bool, x: u64, y: u64) -> u64 {
-    if b { x } else { y }
-}
-
-// ---- all five
-
-// Puts the kept words into the lists, the word `at` being `v`.
-fn fill_all(
-    kept: &[u64],
-    at: usize,
-    v: u64,
-    globals: &mut [u64],
-    participants: &mut [u64],
-    nodes: &mut [u64],
-    held: &mut [u64],
-    queued: &mut [u64],
-)
-    requires { Fits kept.now globals.old participants.old nodes.old held.old queued.old }
-{
-    fill(globals, kept, 0, at, v);
-    fill(participants, kept, 7, at, v);
-    fill(nodes, kept, 70, at, v);
-    fill(held, kept, 82, at, v);
-    fill(queued, kept, 274, at, v);
-}
-
-// Keeps the words of the lists.
-fn keep_all(
-    kept: &mut [u64],
-    globals: &[u64],
-    participants: &[u64],
-    nodes: &[u64],
-    held: &[u64],
-    queued: &[u64],
-)
-    requires { Fits kept.old globals.now participants.now nodes.now held.now queued.now }
-{
-    keep(kept, 0, globals);
-    keep(kept, 7, participants);
-    keep(kept, 70, nodes);
-    keep(kept, 82, held);
-    keep(kept, 274, queued);
-}
-
-// Returns how many words of the lists are not what `fill_all` put there.
-fn changed_all(
-    kept: &[u64],
-    at: usize,
-    v: u64,
-    globals: &[u64],
-    participants: &[u64],
-    nodes: &[u64],
-    held: &[u64],
-    queued: &[u64],
-) -> u64
-    requires { Fits kept.now globals.now participants.now nodes.now held.now queued.now }
-{
-    let a = changed(globals, kept, 0, at, v);
-    let b = changed(participants, kept, 7, at, v);
-    let c = changed(nodes, kept, 70, at, v);
-    let d = changed(held, kept, 82, at, v);
-    let e = changed(queued, kept, 274, at, v);
-    let ab = std::num::wrapping_add_u64(a, b);
-    let cd = std::num::wrapping_add_u64(c, d);
-    std::num::wrapping_add_u64(std::num::wrapping_add_u64(ab, cd), e)
-}
-
-// Returns a checksum with the words of all lists added.
-fn sum_all(
-    sum: u64,
-    globals: &[u64],
-    participants: &[u64],
-    nodes: &[u64],
-    held: &[u64],
-    queued: &[u64],
-    freed: &[u64],
-) -> u64 {
-    let a = sum_list(sum, globals);
-    let b = sum_list(a, participants);
-    let c = sum_list(b, nodes);
-    let d = sum_list(c, held);
-    let e = sum_list(d, queued);
-    sum_list(e, freed)
-}
-
-// ---- the reclaimer
-
-// Plays an action; a broken record starts afresh.
-fn act(
-    globals: &mut [u64],
-    participants: &mut [u64],
-    nodes: &mut [u64],
-    held: &mut [u64],
-    queued: &mut [u64],
-    freed: &mut [u64],
-    action: Action,
-) -> Answer {
-    let Action::Broken = action else {
-        return player::act(
-            N,
-            M,
-            globals,
-            participants,
-            nodes,
-            held,
-            queued,
-            freed,
-            action,
-        );
+// Puts words into the lists and plays an action; a broken record starts afresh.
+fn play(t: &mut Tables, words: &[u64; WORDS], action: Option<Action>) -> Answer {
+    fill(t, words);
+    t.freed.fill(0);
+    let mut l = ListsMut {
+        n: N,
+        m: M,
+        globals: &mut t.globals,
+        participants: &mut t.participants,
+        nodes: &mut t.nodes,
+        held: &mut t.held,
+        queued: &mut t.queued,
     };
-    reclaimer::start(N, M, globals, participants, nodes, held, queued)
+    match action {
+        Some(_) => player::act(&mut l, &mut t.freed, action),
+        None => reclaimer::start(&mut l),
+    }
 }
 
-// Returns the word that a case changes: each has four cases, and after these each word of `held` has three.
-fn word_of(i: usize) -> usize
-    requires { i < 2696 }
-    ensures { result < 530 }
-{
-    if i < 2120 {
-        return i / 4;
-    }
-    82 + (i - 2120) / 3
+// ---- a case
+
+// A case: the word `at` is `value`, and then the action is tried.
+#[derive(Clone, Copy)]
+struct Case {
+    at: usize,
+    value: u64,
+    action: Action,
 }
 
-// Returns what it is changed to: `value` of the word, and in a made-up bag the token 2, the node 2 or the slot 2.
-fn made(i: usize, w: u64, turn: u64) -> u64 {
-    if i < 2120 {
-        return value(w, turn);
+impl Case {
+    // Returns case `i` of a moment: a changed word, or a bag that is made up. In that stands the token 2, the node 2 or the slot 2, and whose
+    // bag it is retires the token 2.
+    fn new(kept: &[u64; WORDS], i: usize, turn: u64) -> Case
+        requires { i < CASES }
+        ensures { result.at < WORDS }
+    {
+        if i < CHANGED {
+            let at = i / 4;
+            return Case {
+                at,
+                value: value(kept[at], turn),
+                action: tried(turn),
+            };
+        }
+        let k = i - CHANGED;
+        Case {
+            at: HELD + k / 3,
+            value: 9 + (k % 3) as u64,
+            action: Action::Call((k / (3 * BAG_WORDS)) as u64, Call::Defer(2)),
+        }
     }
-    9 + (i as u64 - 2120) % 3
 }
 
-// Returns what is tried then: with a made-up bag, that whose bag it is retires the token 2.
-fn asked(i: usize, turn: u64) -> Action {
-    if i < 2120 {
-        return tried(turn);
+// Returns what a word is changed to: one more, one less, two more, or a small number.
+fn value(w: u64, turn: u64) -> u64 {
+    match turn % 4 {
+        0 => w.wrapping_add(1),
+        1 => w.wrapping_sub(1),
+        2 => w.wrapping_add(2),
+        _ => turn % 70,
     }
-    Action::Call((i as u64 - 2120) / 192, Call::Defer(2))
 }
 
 // Returns what is tried with a changed word: of nineteen, ten are steps, every other one marked, one is a marked step of a participant that there is not, and
@@ -255,318 +162,106 @@ fn tried(turn: u64) -> Action {
     }
 }
 
-// Returns what a word is changed to: one more, one less, two more, or a small number.
-fn value(w: u64, turn: u64) -> u64 {
-    match turn % 4 {
-        0 => std::num::wrapping_add_u64(w, 1),
-        1 => std::num::wrapping_sub_u64(w, 1),
-        2 => std::num::wrapping_add_u64(w, 2),
-        _ => turn % 70,
+// ---- a moment
+
+// What came of the cases of a moment; `wrong` counts words that a refusal changed.
+#[derive(Clone, Copy, Default)]
+struct Tally {
+    damaged: u64,
+    refused: u64,
+    done: u64,
+    more: u64,
+    wrong: u64,
+    sum: u64,
+}
+
+impl Tally {
+    // Counts an answer: `words` stood in the lists before.
+    fn count(&mut self, answer: Answer, words: &[u64; WORDS], t: &Tables) {
+        let after = words_of(t);
+        match answer {
+            Answer::Done(v, k) => {
+                self.done = self.done.wrapping_add(1);
+                self.sum_lists(&after, &t.freed);
+                self.sum = mix(mix(self.sum, v), k);
+            }
+            Answer::More(k) => {
+                self.more = self.more.wrapping_add(1);
+                self.sum_lists(&after, &t.freed);
+                self.sum = mix(self.sum, k);
+            }
+            Answer::Refused(r) => {
+                if r == 1 {
+                    self.damaged = self.damaged.wrapping_add(1);
+                } else {
+                    self.refused = self.refused.wrapping_add(1);
+                }
+                let changed = after.iter().zip(words).filter(|(a, b)| a != b).count();
+                self.wrong = self.wrong.wrapping_add(changed as u64);
+                self.sum = mix(self.sum, r);
+            }
+        }
+    }
+
+    // Adds the words of the lists to the checksum, and the freed tokens.
+    fn sum_lists(&mut self, words: &[u64], freed: &[u64]) {
+        self.sum = words.iter().chain(freed).fold(self.sum, |s, w| mix(s, *w));
     }
 }
 
-// Returns the tally with an answer counted: `wrong` words changed, `after` is the checksum with the lists.
-fn counted(t: Tally, answer: Answer, wrong: u64, after: u64) -> Tally {
-    let one = 1;
-    match answer {
-        Answer::Done(v, k) => Tally {
-            damaged: t.damaged,
-            refused: t.refused,
-            done: std::num::wrapping_add_u64(t.done, one),
-            more: t.more,
-            wrong: t.wrong,
-            sum: mix(mix(after, v), k),
-        },
-        Answer::More(k) => Tally {
-            damaged: t.damaged,
-            refused: t.refused,
-            done: t.done,
-            more: std::num::wrapping_add_u64(t.more, one),
-            wrong: t.wrong,
-            sum: mix(after, k),
-        },
-        Answer::Refused(r) => Tally {
-            damaged: std::num::wrapping_add_u64(t.damaged, pick(r == 1, 1, 0)),
-            refused: std::num::wrapping_add_u64(t.refused, pick(r == 1, 0, 1)),
-            done: t.done,
-            more: t.more,
-            wrong: std::num::wrapping_add_u64(t.wrong, wrong),
-            sum: mix(t.sum, r),
-        },
-    }
-}
+// What the checksum stays below, 2^31 - 1.
+const MODULUS: u64 = 2147483647;
 
-// Tries one case: the word `at` is `v`.
-fn try_case(
-    kept: &[u64],
-    at: usize,
-    v: u64,
-    action: Action,
-    globals: &mut [u64],
-    participants: &mut [u64],
-    nodes: &mut [u64],
-    held: &mut [u64],
-    queued: &mut [u64],
-    freed: &mut [u64],
-) -> Answer
-    requires { Fits kept.now globals.old participants.old nodes.old held.old queued.old }
-{
-    fill_all(kept, at, v, globals, participants, nodes, held, queued);
-    start::clear(freed);
-    act(globals, participants, nodes, held, queued, freed, action)
-}
-
-// Tries case `i` of a moment and counts what came of it. `first` numbers the first case.
-fn count_case(
-    kept: &[u64],
-    i: usize,
-    first: u64,
-    globals: &mut [u64],
-    participants: &mut [u64],
-    nodes: &mut [u64],
-    held: &mut [u64],
-    queued: &mut [u64],
-    freed: &mut [u64],
-    t: Tally,
-) -> Tally
-    requires i_bound { i < 2696 }
-    requires fits { Fits kept.now globals.old participants.old nodes.old held.old queued.old }
-{
-    let at = word_of(i);
-    let turn = std::num::wrapping_add_u64(first, i as u64);
-    let v = made(i, kept[at], turn);
-    let action = asked(i, turn);
-    let answer = try_case(
-        kept,
-        at,
-        v,
-        action,
-        globals,
-        participants,
-        nodes,
-        held,
-        queued,
-        freed,
-    );
-    look(
-        kept,
-        at,
-        v,
-        answer,
-        globals,
-        participants,
-        nodes,
-        held,
-        queued,
-        freed,
-        t,
-    )
-}
-
-// Counts an answer, with what the lists are afterwards.
-fn look(
-    kept: &[u64],
-    at: usize,
-    v: u64,
-    answer: Answer,
-    globals: &[u64],
-    participants: &[u64],
-    nodes: &[u64],
-    held: &[u64],
-    queued: &[u64],
-    freed: &[u64],
-    t: Tally,
-) -> Tally
-    requires { Fits kept.now globals.now participants.now nodes.now held.now queued.now }
-{
-    let wrong = changed_all(kept, at, v, globals, participants, nodes, held, queued);
-    let after = sum_all(t.sum, globals, participants, nodes, held, queued, freed);
-    counted(t, answer, wrong, after)
+// Returns a checksum with a word added.
+fn mix(sum: u64, w: u64) -> u64 {
+    ((sum % MODULUS) * 257 + w % MODULUS) % MODULUS
 }
 
 // Tries every case of a moment. `first` numbers the first.
-fn try_moment(
-    kept: &[u64],
-    first: u64,
-    globals: &mut [u64],
-    participants: &mut [u64],
-    nodes: &mut [u64],
-    held: &mut [u64],
-    queued: &mut [u64],
-    freed: &mut [u64],
-) -> Tally
-    requires { Fits kept.now globals.old participants.old nodes.old held.old queued.old }
-{
-    let mut t = Tally {
-        damaged: 0,
-        refused: 0,
-        done: 0,
-        more: 0,
-        wrong: 0,
-        sum: 0,
-    };
-    let mut i: usize = 0;
-    while i < 2696 {
-        let case = i;
-        i += 1;
-        t = count_case(
-            kept,
-            case,
-            first,
-            globals,
-            participants,
-            nodes,
-            held,
-            queued,
-            freed,
-            t,
-        );
+fn try_moment(kept: &[u64; WORDS], first: u64, t: &mut Tables) -> Tally {
+    let mut tally = Tally::default();
+    for i in 0..CASES {
+        let Case { at, value, action } = Case::new(kept, i, first.wrapping_add(i as u64));
+        let mut words = *kept;
+        words[at] = value;
+        let answer = play(t, &words, Some(action));
+        tally.count(answer, &words, t);
     }
-    t
-}
-
-// Plays a record on the kept words, and keeps what comes of it.
-fn play_record(
-    bytes: &[u8],
-    kept: &mut [u64],
-    globals: &mut [u64],
-    participants: &mut [u64],
-    nodes: &mut [u64],
-    held: &mut [u64],
-    queued: &mut [u64],
-    freed: &mut [u64],
-)
-    requires { Fits kept.old globals.old participants.old nodes.old held.old queued.old }
-{
-    let action = script::action_of(bytes);
-    try_case(
-        kept,
-        WORDS,
-        0,
-        action,
-        globals,
-        participants,
-        nodes,
-        held,
-        queued,
-        freed,
-    );
-    keep_all(kept, globals, participants, nodes, held, queued);
-}
-
-// Writes a number and what it counts.
-fn say<W: Write>(writer: &mut W, v: u64, what: &[u8]) -> io::Result<()> {
-    stream::write_decimal(writer, v)?;
-    writer.write_all(what)
+    tally
 }
 
 // Says what came of a moment.
 fn report<W: Write>(writer: &mut W, t: Tally) -> io::Result<()> {
-    say(writer, t.damaged, b" damaged, ")?;
-    say(writer, t.refused, b" refused, ")?;
-    say(writer, t.done, b" done, ")?;
-    say(writer, t.more, b" more, sum ")?;
-    say(writer, t.sum, b", changed by a refusal ")?;
-    say(writer, t.wrong, b"\n")
+    writeln!(
+        writer,
+        "{} damaged, {} refused, {} done, {} more, sum {}, changed by a refusal {}",
+        t.damaged, t.refused, t.done, t.more, t.sum, t.wrong
+    )
 }
 
 // Plays the records of a block, and tries every word after each `EVERY` of them.
-fn run<W: Write>(
-    writer: &mut W,
-    block: &[u8],
-    kept: &mut [u64],
-    globals: &mut [u64],
-    participants: &mut [u64],
-    nodes: &mut [u64],
-    held: &mut [u64],
-    queued: &mut [u64],
-    freed: &mut [u64],
-) -> io::Result<()>
-    requires { Fits kept.old globals.old participants.old nodes.old held.old queued.old }
-{
-    let mut at: usize = 0;
-    while at + 8 <= block.len() {
-        let end = at + 8;
-        let moment = (at / 8) as u64;
-        one_record(
-            writer,
-            &block[at..end],
-            moment,
-            kept,
-            globals,
-            participants,
-            nodes,
-            held,
-            queued,
-            freed,
-        )?;
-        at = end;
-    }
-    Ok(())
-}
-
-// Plays a record, and tries every word if this is a moment to do so.
-fn one_record<W: Write>(
-    writer: &mut W,
-    bytes: &[u8],
-    moment: u64,
-    kept: &mut [u64],
-    globals: &mut [u64],
-    participants: &mut [u64],
-    nodes: &mut [u64],
-    held: &mut [u64],
-    queued: &mut [u64],
-    freed: &mut [u64],
-) -> io::Result<()>
-    requires { Fits kept.old globals.old participants.old nodes.old held.old queued.old }
-{
-    play_record(
-        bytes,
-        kept,
-        globals,
-        participants,
-        nodes,
-        held,
-        queued,
-        freed,
-    );
-    if moment % EVERY == 0 {
-        let t = try_moment(
-            kept,
-            moment,
-            globals,
-            participants,
-            nodes,
-            held,
-            queued,
-            freed,
-        );
-        report(writer, t)?;
+fn run<W: Write>(writer: &mut W, block: &[u8], t: &mut Tables) -> io::Result<()> {
+    let mut kept = [0; WORDS];
+    for (i, bytes) in block.chunks_exact(8).enumerate() {
+        play(t, &kept, script::action_of(bytes));
+        kept = words_of(t);
+        if i % EVERY == 0 {
+            report(writer, try_moment(&kept, i as u64, t))?;
+        }
     }
     Ok(())
 }
 
 fn main(rt: HostRuntime) -> io::Result<()> {
-    let mut globals = [0u64; 7];
-    let mut participants = [0u64; 63];
-    let mut nodes = [0u64; 12];
-    let mut held = [0u64; 192];
-    let mut queued = [0u64; 256];
-    let mut freed = [0u64; 64];
-    let mut kept = [0u64; 530];
-    let mut block = stream::large_buffer();
-    let mut reader = rt.stdin();
-    let n = stream::read_full(&mut reader, &mut block)?;
-    let mut writer = rt.stdout();
-    run(
-        &mut writer,
-        &block[..n],
-        &mut kept,
-        &mut globals,
-        &mut participants,
-        &mut nodes,
-        &mut held,
-        &mut queued,
-        &mut freed,
-    )
+    let mut t = Tables {
+        globals: [0; PARTICIPANTS],
+        participants: [0; N * PARTICIPANT_WORDS],
+        nodes: [0; M * NODE_WORDS],
+        held: [0; N * BAG_WORDS],
+        queued: [0; M * BAG_WORDS],
+        freed: [0; BAG_WORDS],
+    };
+    let mut block = [0u8; 65536];
+    let n = stream::read_full(&mut rt.stdin(), &mut block)?;
+    run(&mut rt.stdout(), &block[..n], &mut t)
 }

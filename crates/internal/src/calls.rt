@@ -5,86 +5,64 @@ ghost use Rattle.std.specs.Prelude.{◌≡◌, ◌+◌, ◌^◌, ◌<◌, nat_le
 ghost use Rattle.definition.specs.Base.{branch};
 ghost use Rattle.definition.specs.Calls.{lacks, count_full, token_above, finalizes, overflow, pin_needs, needs, begins, opens};
 ghost use Rattle.definition.specs.declared.Call.{Call};
+ghost use Rattle.refusals.specs.Numbers.{refused};
 
+use counts::{set_guards, set_handles};
 use definition::{After, Call, Deferring, Owner, Participant, Place, PushAt, RepinAt, Then};
-use flow::links::one_fewer;
 use flow::{Bag, Deferred, Global, Local};
+use refusals::{Refusal, refuse_if};
 
-// The one or the other.
-fn pick(b: bool, x: u64, y: u64) -> u64
-    ensures { result ≡ branch b x y }
+// Refusals 7 and 6: the count that the call needs is 0.
+#[tactic(auto, unfolding(definition::specs::Calls::lacks))]
+pub fn lacks(call: Call, o: Participant) -> Result<(), Refusal>
+    ensures { refused result ≡ lacks call o }
 {
-    if b { x } else { y }
-}
-
-// Refusals 7 and 6: the number, where the count that the call needs is 0; else 0.
-pub fn lacks(call: Call, o: Participant) -> u64
-    ensures { result ≡ lacks call o }
-{
-    let counts = o.counts;
-    let handle = pick(counts.handles == 0, 7, 0);
-    let guard = pick(counts.guards == 0, 6, 0);
     match call {
-        Call::Acquire => handle,
-        Call::Release => handle,
-        Call::Pin => handle,
-        Call::Unpin => guard,
-        Call::Repin => guard,
-        Call::Defer(_) => guard,
-        Call::Flush => guard,
+        Call::Acquire | Call::Release | Call::Pin => {
+            refuse_if(o.counts.handles == 0, Refusal::NoHandle)
+        }
+        Call::Unpin | Call::Repin | Call::Defer(_) | Call::Flush => {
+            refuse_if(o.counts.guards == 0, Refusal::NoGuard)
+        }
     }
 }
 
 // Refusal 8: the count that the call raises is at its limit.
+#[tactic(auto, unfolding(definition::specs::Calls::max_count, definition::specs::Calls::count_full))]
 pub fn count_full(call: Call, o: Participant) -> bool
     ensures { result ≡ count_full call o }
 {
-    let counts = o.counts;
     match call {
-        Call::Acquire => Local::MAX_COUNT <= counts.handles,
-        Call::Release => false,
-        Call::Pin => Local::MAX_COUNT <= counts.guards,
-        Call::Unpin => false,
-        Call::Repin => false,
-        Call::Defer(_) => false,
-        Call::Flush => false,
+        Call::Acquire => Local::MAX_COUNT <= o.counts.handles,
+        Call::Pin => Local::MAX_COUNT <= o.counts.guards,
+        _ => false,
     }
 }
 
 // Refusal 9: a token above the limit.
+#[tactic(auto, unfolding(definition::specs::Calls::max_token, definition::specs::Calls::token_above))]
 pub fn token_above(call: Call) -> bool
     ensures { result ≡ token_above call }
 {
-    match call {
-        Call::Acquire => false,
-        Call::Release => false,
-        Call::Pin => false,
-        Call::Unpin => false,
-        Call::Repin => false,
-        Call::Defer(token) => Deferred::MAX_TOKEN < token,
-        Call::Flush => false,
-    }
+    matches!(call, Call::Defer(token) if Deferred::MAX_TOKEN < token)
 }
 
 // Whether the call goes on to `finalize`: it gives up the last handle of a participant that is not pinned, or the last guard of one
 // that has no handle.
+#[tactic(auto, unfolding(definition::specs::Calls::finalizes))]
 pub fn finalizes(call: Call, o: Participant) -> bool
     ensures { result ≡ finalizes call o }
 {
-    let counts = o.counts;
     match call {
-        Call::Acquire => false,
-        Call::Release => crate::both(counts.handles == 1, counts.guards == 0),
-        Call::Pin => false,
-        Call::Unpin => crate::both(counts.guards == 1, counts.handles == 0),
-        Call::Repin => false,
-        Call::Defer(_) => false,
-        Call::Flush => false,
+        Call::Release => o.counts.handles == 1 && o.counts.guards == 0,
+        Call::Unpin => o.counts.guards == 1 && o.counts.handles == 0,
+        _ => false,
     }
 }
 
 // The nodes that `held` items can fill together with what a collect may add: at most `n` slots, one for each participant, and
 // `COLLECT_STEPS` old heads.
+#[tactic(auto, unfolding(definition::specs::Bags::max_objects, definition::specs::Flow::collect_steps, definition::specs::Calls::overflow))]
 pub fn overflow(n: u64, held: u64) -> u64
     requires { held + n + 8 < 2 ^ 64 }
     ensures { result ≡ overflow n held }
@@ -93,123 +71,125 @@ pub fn overflow(n: u64, held: u64) -> u64
 }
 
 // What an outermost pin needs.
+#[tactic(auto, unfolding(definition::specs::Base::branch, definition::specs::Calls::pin_needs))]
 pub fn pin_needs(n: u64, o: Participant) -> u64
     requires { o.held + n + 8 < 2 ^ 64 }
     ensures { result ≡ pin_needs n o }
 {
-    let counts = o.counts;
-    let due = crate::collects(counts.pins);
-    let collecting = overflow(n, o.held);
-    pick(due, collecting, 0)
-}
-
-// What a call needs that may go on to `finalize`: the node of its bag, even when that is empty, and what its pin needs.
-fn final_needs(n: u64, call: Call, o: Participant) -> u64
-    requires { o.held + n + 8 < 2 ^ 64 }
-    ensures { result ≡ branch (finalizes call o) (1 + pin_needs n o) 0 }
-{
-    let last = finalizes(call, o);
-    let pinning = pin_needs(n, o);
-    pick(last, 1 + pinning, 0)
+    if crate::collects(o.counts.pins) {
+        overflow(n, o.held)
+    } else {
+        0
+    }
 }
 
 // What a flush needs: the node of its bag, if that is not empty, and what its collect needs.
+#[tactic(auto, using(crate::proofs::Inner::overflow_small), unfolding(definition::specs::Base::branch))]
 fn flush_needs(n: u64, held: u64) -> u64
     requires { n + 8 < 2 ^ 64 }
     ensures { result ≡ branch (nat_le 1 held) 1 0 + overflow n 0 }
 {
-    let bag = pick(1 <= held, 1, 0);
-    let collecting = overflow(n, 0);
-    bag + collecting
+    let bag = if 1 <= held { 1 } else { 0 };
+    bag + overflow(n, 0)
 }
 
 // The nodes set aside when the call begins, with `n` participants.
+#[tactic(auto, unfolding(definition::specs::Base::branch, definition::specs::Bags::max_objects, definition::specs::Calls::needs))]
 pub fn needs(n: u64, call: Call, o: Participant) -> u64
     requires { o.held + n + 8 < 2 ^ 64 }
     ensures { result ≡ needs n call o }
 {
     match call {
-        Call::Acquire => 0,
-        Call::Release => final_needs(n, Call::Release, o),
-        Call::Pin => {
-            let counts = o.counts;
-            let pinning = pin_needs(n, o);
-            pick(counts.guards == 0, pinning, 0)
-        }
-        Call::Unpin => final_needs(n, Call::Unpin, o),
-        Call::Repin => 0,
-        Call::Defer(_) => pick(o.held == Bag::MAX_OBJECTS, 1, 0),
+        // The node of its bag, even when that is empty, and what its pin needs.
+        #[tactic(auto, using(crate::proofs::Inner::pin_needs_small))]
+        Call::Release | Call::Unpin if finalizes(call, o) => 1 + pin_needs(n, o),
+        Call::Pin if o.counts.guards == 0 => pin_needs(n, o),
+        Call::Defer(_) if o.held == Bag::MAX_OBJECTS => 1,
         Call::Flush => flush_needs(n, o.held),
+        _ => 0,
     }
 }
 
 // Increments the handle count.
+#[tactic(auto, unfolding(definition::specs::Calls::begins))]
 fn acquire_handle(o: Participant) -> After
     requires { o.counts.handles + 1 < 2 ^ 64 }
     ensures { result ≡ begins Call.Acquire o }
 {
-    let counts = o.counts;
-    let n = flow::counting(counts.guards, counts.handles + 1, counts.pins, o);
+    let mut n = o;
+    set_handles(&mut n.counts, o.counts.handles + 1);
     flow::done(0, n)
 }
 
 // Decrements the handle count.
+#[tactic(auto, unfolding(definition::specs::Base::branch, definition::specs::Calls::begins))]
 fn release_handle(o: Participant) -> After
     ensures { result ≡ begins Call.Release o }
 {
-    let counts = o.counts;
-    let handles = one_fewer(counts.handles);
-    let n = flow::counting(counts.guards, handles, counts.pins, o);
-    let last = finalizes(Call::Release, o);
-    let finalize = flow::finalize(o);
-    let over = flow::done(0, n);
-    flow::pick_after(last, finalize, over)
+    if finalizes(Call::Release, o) {
+        flow::finalize(o)
+    } else {
+        let mut n = o;
+        set_handles(&mut n.counts, o.counts.handles.saturating_sub(1));
+        flow::done(0, n)
+    }
 }
 
 // Pins the participant: only the outermost guard makes accesses.
+#[tactic(auto, unfolding(definition::specs::Base::branch, definition::specs::Calls::begins))]
 fn pin(o: Participant) -> After
     requires { o.counts.guards + 1 < 2 ^ 64 }
     ensures { result ≡ begins Call.Pin o }
 {
-    let counts = o.counts;
-    let n = flow::counting(counts.guards + 1, counts.handles, counts.pins, o);
-    let outermost = flow::on(Place::PinEpoch(Owner::Pin), n);
-    let over = flow::done(0, n);
-    flow::pick_after(counts.guards == 0, outermost, over)
+    let mut n = o;
+    set_guards(&mut n.counts, o.counts.guards + 1);
+    if o.counts.guards == 0 {
+        flow::on(Place::PinEpoch(Owner::Pin), n)
+    } else {
+        flow::done(0, n)
+    }
 }
 
 // Unpins the participant: only the outermost guard makes accesses.
+#[tactic(auto, unfolding(definition::specs::Base::branch, definition::specs::Calls::begins))]
 fn unpin(o: Participant) -> After
     ensures { result ≡ begins Call.Unpin o }
 {
-    let counts = o.counts;
-    let guards = one_fewer(counts.guards);
-    let n = flow::counting(guards, counts.handles, counts.pins, o);
-    let outermost = flow::on(Place::UnpinWord, n);
-    let over = flow::done(0, n);
-    flow::pick_after(counts.guards == 1, outermost, over)
+    let mut n = o;
+    set_guards(&mut n.counts, o.counts.guards.saturating_sub(1));
+    if o.counts.guards == 1 {
+        flow::on(Place::UnpinWord, n)
+    } else {
+        flow::done(0, n)
+    }
 }
 
 // Unpins and then pins the participant: only if there's only one guard.
+#[tactic(auto, unfolding(definition::specs::Base::branch, definition::specs::Calls::begins))]
 fn repin(o: Participant) -> After
     ensures { result ≡ begins Call.Repin o }
 {
-    let counts = o.counts;
-    let update = flow::on(Place::Repin(RepinAt::Word), o);
-    let over = flow::done(0, o);
-    flow::pick_after(counts.guards == 1, update, over)
+    if o.counts.guards == 1 {
+        flow::on(Place::Repin(RepinAt::Word), o)
+    } else {
+        flow::done(0, o)
+    }
 }
 
 // Pushes the bag if it is not empty, then collects.
+#[tactic(auto, unfolding(definition::specs::Base::branch, definition::specs::Calls::begins))]
 fn flush(o: Participant) -> After
     ensures { result ≡ begins Call.Flush o }
 {
-    let push = flow::on(Place::Push(Then::Flush, PushAt::Epoch), o);
-    let collect = flow::on(Place::AdvanceEpoch(Owner::Flush), o);
-    flow::pick_after(1 <= o.held, push, collect)
+    if 1 <= o.held {
+        flow::on(Place::Push(Then::Flush, PushAt::Epoch), o)
+    } else {
+        flow::on(Place::AdvanceEpoch(Owner::Flush), o)
+    }
 }
 
 // What the call begins.
+#[tactic(auto, unfolding(definition::specs::Calls::begins))]
 pub fn begins(call: Call, o: Participant) -> After
     requires { (o.counts.guards + 1 < 2 ^ 64) × (o.counts.handles + 1 < 2 ^ 64) }
     ensures { result ≡ begins call o }
@@ -226,12 +206,11 @@ pub fn begins(call: Call, o: Participant) -> After
 }
 
 // What the call begins, with the nodes that it needs set aside.
+#[tactic(auto, unfolding(definition::specs::Calls::opens))]
 pub fn opens(n: u64, call: Call, o: Participant) -> After
     requires guards_bound { (o.counts.guards + 1 < 2 ^ 64) × (o.counts.handles + 1 < 2 ^ 64) }
     requires n_bound { o.held + n + 8 < 2 ^ 64 }
     ensures { result ≡ opens n call o }
 {
-    let share = needs(n, call, o);
-    let p = flow::sharing(share, o);
-    begins(call, p)
+    begins(call, flow::sharing(needs(n, call, o), o))
 }

@@ -9,34 +9,29 @@
 pub mod calls; // calls.rt: what a call begins
 pub mod places; // places.rt: what is asked of a place besides
 
-ghost use Rattle.std.specs.Prelude.{◌≡◌, ℕ, ◌&&◌};
+ghost use Rattle.std.specs.Prelude.{◌≡◌, ℕ};
 ghost use Rattle.definition.specs.Rule.{asks, follows};
-ghost use Rattle.definition.specs.Internal.{collects, pin_counted, pin_epoch, pin_word, unpin_word, repin, advance_epoch, advance_word, advance_store, final_word, rule};
+ghost use Rattle.definition.specs.Internal.{collects, pin_counted, pin_epoch, pin_word, unpin_word, repin, final_word, rule};
+ghost use Rattle.definition.specs.Internal.{advance_epoch, advance_word, advance_store};
 ghost use Rattle.epoch.specs.declared.Epoch.{Epoch};
 ghost use Rattle.definition.specs.declared.Node.{Node};
 ghost use Rattle.definition.specs.declared.Owner.{Owner};
 ghost use Rattle.definition.specs.declared.Participant.{Participant};
 ghost use Rattle.definition.specs.declared.Ptr.{Ptr};
-ghost use Rattle.definition.specs.declared.RepinAt.{RepinAt};
 ghost use Rattle.definition.specs.declared.Seen.{Seen};
 ghost use Rattle.definition.specs.declared.Slot.{Slot};
 ghost use Rattle.definition.specs.declared.Try.{Try};
 ghost use Rattle.internal.specs.Fits.{PlaceFits};
 
+use counts::{set_handles, set_pins};
 use definition::{
     After, Ask, Node, Owner, Participant, Place, Pred, Ptr, RepinAt, Seen, Slot, Try, WalkAt, Word,
 };
 use epoch::Epoch;
 use flow::Local;
 
-// Both. (`&&` would branch.)
-fn both(a: bool, b: bool) -> bool
-    ensures { result ≡ a && b }
-{
-    if a { b } else { false }
-}
-
 // `Local::pin`, the load of the global epoch.
+#[tactic(auto, unfolding(definition::specs::Rule::asks, definition::specs::Internal::pin_epoch))]
 pub fn pin_epoch_asks() -> Ask
     ensures { (owner : Owner) (o : Participant) → result ≡ asks (pin_epoch owner o) }
 {
@@ -44,6 +39,7 @@ pub fn pin_epoch_asks() -> Ask
 }
 
 // The epoch is stored in a step of its own: meanwhile the global epoch may advance.
+#[tactic(auto, unfolding(definition::specs::Rule::follows, definition::specs::Internal::pin_epoch))]
 pub fn pin_epoch_follows(owner: Owner, o: Participant, seen: Seen) -> After
     ensures { result ≡ follows (pin_epoch owner o) seen }
 {
@@ -51,6 +47,7 @@ pub fn pin_epoch_follows(owner: Owner, o: Participant, seen: Seen) -> After
 }
 
 // Whether the pin with this old pin count collects.
+#[tactic(auto, unfolding(definition::specs::Internal::collects, definition::specs::Internal::pinnings_between_collect))]
 fn collects(pins: u64) -> bool
     ensures { result ≡ collects pins }
 {
@@ -58,28 +55,29 @@ fn collects(pins: u64) -> bool
 }
 
 // After every `PINNINGS_BETWEEN_COLLECT` try advancing the epoch and collecting some garbage.
-#[tactic(auto, unfolding(definition::specs::Internal::pin_counted))]
+#[tactic(auto, unfolding(definition::specs::Base::branch, definition::specs::Internal::pin_counted))]
 fn pin_counted(owner: Owner, o: Participant) -> After
     ensures { result ≡ pin_counted owner o }
 {
-    let counts = o.counts;
     // Increment the pin counter.
-    let pins = std::num::wrapping_add_u64(counts.pins, 1);
-    let n = flow::counting(counts.guards, counts.handles, pins, o);
-    let collect = flow::on(Place::AdvanceEpoch(owner), n);
-    let over = flow::collected(owner, n);
-    let due = collects(counts.pins);
-    flow::pick_after(due, collect, over)
+    let mut n = o;
+    set_pins(&mut n.counts, o.counts.pins.wrapping_add(1));
+    if collects(o.counts.pins) {
+        flow::on(Place::AdvanceEpoch(owner), n)
+    } else {
+        flow::collected(owner, n)
+    }
 }
 
 // `Local::pin`, the store of the epoch, pinned, into its own word.
+#[tactic(auto, unfolding(definition::specs::Rule::asks, definition::specs::Internal::pin_word))]
 pub fn pin_word_asks(me: Slot, e: Epoch) -> Ask
     ensures { (owner : Owner) (o : Participant) → result ≡ asks (pin_word me owner e o) }
 {
-    let pinned = e.pinned();
-    Ask::Store(Word::ParticipantWord(me), pinned.0)
+    Ask::Store(Word::ParticipantWord(me), e.pinned().0)
 }
 
+#[tactic(auto, unfolding(definition::specs::Rule::follows, definition::specs::Internal::pin_word))]
 pub fn pin_word_follows(owner: Owner, o: Participant) -> After
     ensures { (me : Slot) (e : Epoch) (seen : Seen) → result ≡ follows (pin_word me owner e o) seen }
 {
@@ -87,24 +85,27 @@ pub fn pin_word_follows(owner: Owner, o: Participant) -> After
 }
 
 // `Local::unpin`, the store of the starting epoch.
+#[tactic(auto, unfolding(definition::specs::Rule::asks, definition::specs::Internal::unpin_word))]
 pub fn unpin_word_asks(me: Slot) -> Ask
     ensures { (o : Participant) → result ≡ asks (unpin_word me o) }
 {
-    let starting = Epoch::starting();
-    Ask::Store(Word::ParticipantWord(me), starting.0)
+    Ask::Store(Word::ParticipantWord(me), Epoch::starting().0)
 }
 
 // Without a handle it goes on to `finalize`.
+#[tactic(auto, unfolding(definition::specs::Base::branch, definition::specs::Rule::follows, definition::specs::Internal::unpin_word))]
 pub fn unpin_word_follows(o: Participant) -> After
     ensures { (me : Slot) (seen : Seen) → result ≡ follows (unpin_word me o) seen }
 {
-    let counts = o.counts;
-    let last = flow::finalize(o);
-    let over = flow::done(0, o);
-    flow::pick_after(counts.handles == 0, last, over)
+    if o.counts.handles == 0 {
+        flow::finalize(o)
+    } else {
+        flow::done(0, o)
+    }
 }
 
 // `Local::repin`, at guard count 1.
+#[tactic(auto, unfolding(definition::specs::Rule::asks, definition::specs::Internal::repin))]
 pub fn repin_asks(me: Slot, at: RepinAt) -> Ask
     ensures { (o : Participant) → result ≡ asks (repin me o at) }
 {
@@ -115,45 +116,43 @@ pub fn repin_asks(me: Slot, at: RepinAt) -> Ask
     }
 }
 
-// Update the local epoch only if the global epoch, pinned, is another.
-fn repin_epoch(o: Participant, e: Epoch, seen: Seen) -> After
-    ensures { (me : Slot) → result ≡ follows (repin me o (RepinAt.Epoch e)) seen }
-{
-    let word = Epoch(seen.value);
-    let global = word.pinned();
-    let over = flow::done(0, o);
-    let store = flow::on(Place::Repin(RepinAt::Store(global)), o);
-    flow::pick_after(e.0 == global.0, over, store)
-}
-
+#[tactic(auto, unfolding(definition::specs::Base::branch, definition::specs::Rule::follows, definition::specs::Internal::repin))]
 pub fn repin_follows(o: Participant, at: RepinAt, seen: Seen) -> After
     ensures { (me : Slot) → result ≡ follows (repin me o at) seen }
 {
     match at {
         RepinAt::Word => flow::on(Place::Repin(RepinAt::Epoch(Epoch(seen.value))), o),
-        RepinAt::Epoch(e) => repin_epoch(o, e, seen),
+        // Update the local epoch only if the global epoch, pinned, is another.
+        RepinAt::Epoch(e) => {
+            let global = Epoch(seen.value).pinned();
+            if e == global {
+                flow::done(0, o)
+            } else {
+                flow::on(Place::Repin(RepinAt::Store(global)), o)
+            }
+        }
         RepinAt::Store(_) => flow::done(0, o),
     }
 }
 
 // `Global::try_advance`, the load of the global epoch.
+#[tactic(auto, unfolding(definition::specs::Rule::asks, definition::specs::Internal::advance_epoch))]
 pub fn advance_epoch_asks() -> Ask
     ensures { (owner : Owner) (o : Participant) → result ≡ asks (advance_epoch owner o) }
 {
     Ask::Load(Word::GlobalEpoch)
 }
 
+#[tactic(auto, unfolding(definition::specs::Rule::follows, definition::specs::Internal::advance_epoch))]
 pub fn advance_epoch_follows(owner: Owner, o: Participant, seen: Seen) -> After
     ensures { result ≡ follows (advance_epoch owner o) seen }
 {
-    let t = Try {
-        owner: owner,
-        epoch: Epoch(seen.value),
-    };
-    flow::on(Place::Walk(t, WalkAt::Head), o)
+    let epoch = Epoch(seen.value);
+    flow::on(Place::Walk(Try { owner, epoch }, WalkAt::Head), o)
 }
 
 // `Global::try_advance`, the load of a participant's epoch.
+#[tactic(auto, unfolding(definition::specs::Rule::asks, definition::specs::Internal::advance_word))]
 pub fn advance_word_asks(curr: Slot) -> Ask
     ensures { (t : Try) (succ : Ptr) (o : Participant) → result ≡ asks (advance_word t curr succ o) }
 {
@@ -161,62 +160,59 @@ pub fn advance_word_asks(curr: Slot) -> Ask
 }
 
 // If the participant was pinned in a different epoch, we cannot advance the global epoch just yet.
+#[tactic(auto, unfolding(definition::specs::Base::branch, definition::specs::Rule::follows, definition::specs::Internal::advance_word))]
 pub fn advance_word_follows(t: Try, curr: Slot, succ: Ptr, o: Participant, seen: Seen) -> After
     ensures { result ≡ follows (advance_word t curr succ o) seen }
 {
-    let word = Epoch(seen.value);
-    let owner = t.owner;
-    let global = t.epoch;
-    let pinned = word.is_pinned();
-    let local = word.unpinned();
-    let elsewhere = both(pinned, local.0 != global.0);
-    let over = flow::advanced(owner, global, o);
-    let further = flow::walk(t, Pred::Entry(curr), succ, o);
-    flow::pick_after(elsewhere, over, further)
+    let local = Epoch(seen.value);
+    if local.is_pinned() && local.unpinned() != t.epoch {
+        flow::advanced(t.owner, t.epoch, o)
+    } else {
+        flow::walk(t, Pred::Entry(curr), succ, o)
+    }
 }
 
 // `Global::try_advance`: all pinned participants were pinned in the current global epoch. Now let's advance it.
+#[tactic(auto, unfolding(definition::specs::Rule::asks, definition::specs::Internal::advance_store))]
 pub fn advance_store_asks(t: Try) -> Ask
     ensures { (o : Participant) → result ≡ asks (advance_store t o) }
 {
-    let global = t.epoch;
-    let new = global.successor();
-    Ask::Store(Word::GlobalEpoch, new.0)
+    Ask::Store(Word::GlobalEpoch, t.epoch.successor().0)
 }
 
+#[tactic(auto, unfolding(definition::specs::Rule::follows, definition::specs::Internal::advance_store))]
 pub fn advance_store_follows(t: Try, o: Participant) -> After
     ensures { (seen : Seen) → result ≡ follows (advance_store t o) seen }
 {
-    let owner = t.owner;
-    let global = t.epoch;
-    let new = global.successor();
-    flow::advanced(owner, new, o)
+    flow::advanced(t.owner, t.epoch.successor(), o)
 }
 
 // `Local::finalize`, the store in the `unpin` of its guard's drop.
+#[tactic(auto, unfolding(definition::specs::Rule::asks, definition::specs::Internal::final_word))]
 pub fn final_word_asks(me: Slot) -> Ask
     ensures { (o : Participant) → result ≡ asks (final_word me o) }
 {
-    let starting = Epoch::starting();
-    Ask::Store(Word::ParticipantWord(me), starting.0)
+    Ask::Store(Word::ParticipantWord(me), Epoch::starting().0)
 }
 
 // Revert the handle count back to zero.
+#[tactic(auto, unfolding(definition::specs::Rule::follows, definition::specs::Internal::final_word))]
 pub fn final_word_follows(o: Participant) -> After
     ensures { (me : Slot) (seen : Seen) → result ≡ follows (final_word me o) seen }
 {
-    let counts = o.counts;
-    let n = flow::counting(counts.guards, 0, counts.pins, o);
+    let mut n = o;
+    set_handles(&mut n.counts, 0);
     flow::on(Place::FinalTag, n)
 }
 
-// The access of the place at which the participant `me` stands. At rest no step is made.
+// The access of the place at which the participant `me` stands. At rest no step is made. (All places, here and below: document 01 names the
+// form, each place names its access and its next place.)
+#[tactic(auto, unfolding(definition::specs::Rule::asks, definition::specs::Internal::rule))]
 pub fn asks_at(me: Slot, o: Participant) -> Ask
     requires { PlaceFits me o.place }
     ensures { (spare : Node) (sealed : Node → ℕ) → result ≡ asks (rule me spare sealed o o.place) }
 {
-    let place = o.place;
-    match place {
+    match o.place {
         Place::Rest => Ask::Load(Word::GlobalEpoch),
         Place::Register(at) => list::insert_asks(me, at),
         Place::PinEpoch(_) => pin_epoch_asks(),
@@ -236,11 +232,11 @@ pub fn asks_at(me: Slot, o: Participant) -> Ask
 
 // What follows there once the access has seen `seen`. `spare` is the node that a push takes, and `seal` the seal of the bag in the node
 // that the value seen names.
+#[tactic(auto, unfolding(definition::specs::Rule::follows, definition::specs::Internal::rule))]
 pub fn follows_at(me: Slot, spare: Node, seal: u64, o: Participant, seen: Seen) -> After
     ensures { result ≡ follows (rule me spare (λ n. seal) o o.place) seen }
 {
-    let place = o.place;
-    match place {
+    match o.place {
         Place::Rest => flow::on(Place::Rest, o),
         Place::Register(at) => list::insert_follows(me, o, at, seen),
         Place::PinEpoch(owner) => pin_epoch_follows(owner, o, seen),

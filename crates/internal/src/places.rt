@@ -4,87 +4,29 @@ ghost use Rattle.std.specs.Prelude.{◌≡◌};
 ghost use Rattle.definition.specs.Public.{takes_node};
 ghost use Rattle.definition.specs.Ranges.{is_rest};
 ghost use Rattle.definition.specs.Survey.{is_register};
-ghost use Rattle.definition.specs.declared.Place.{Place};
-ghost use Rattle.definition.specs.declared.Then.{Then};
 
 use definition::{Place, PushAt};
 
 // Whether the place is rest: no operation runs.
+#[tactic(auto, unfolding(definition::specs::Ranges::is_rest))]
 pub fn is_rest(place: Place) -> bool
     ensures { result ≡ is_rest place }
 {
-    match place {
-        Place::Rest => true,
-        Place::Register(_) => false,
-        Place::PinEpoch(_) => false,
-        Place::PinWord(_, _) => false,
-        Place::Repin(_) => false,
-        Place::UnpinWord => false,
-        Place::AdvanceEpoch(_) => false,
-        Place::Walk(_, _) => false,
-        Place::AdvanceWord(_, _, _) => false,
-        Place::AdvanceStore(_) => false,
-        Place::Pop(_, _) => false,
-        Place::Push(_, _) => false,
-        Place::FinalWord => false,
-        Place::FinalTag => false,
-    }
+    matches!(place, Place::Rest)
 }
 
 // Whether the place is one of registering.
+#[tactic(auto, unfolding(definition::specs::Survey::is_register))]
 pub fn is_register(place: Place) -> bool
     ensures { result ≡ is_register place }
 {
-    match place {
-        Place::Rest => false,
-        Place::Register(_) => true,
-        Place::PinEpoch(_) => false,
-        Place::PinWord(_, _) => false,
-        Place::Repin(_) => false,
-        Place::UnpinWord => false,
-        Place::AdvanceEpoch(_) => false,
-        Place::Walk(_, _) => false,
-        Place::AdvanceWord(_, _, _) => false,
-        Place::AdvanceStore(_) => false,
-        Place::Pop(_, _) => false,
-        Place::Push(_, _) => false,
-        Place::FinalWord => false,
-        Place::FinalTag => false,
-    }
+    matches!(place, Place::Register(_))
 }
 
-// Whether a push stands before the load by which its bag is sealed.
-fn push_takes_node(at: PushAt) -> bool
-    ensures { (then : Then) → result ≡ takes_node (Place.Push then at) }
-{
-    match at {
-        PushAt::Epoch => true,
-        PushAt::Tail(_) => false,
-        PushAt::Next(_, _) => false,
-        PushAt::Help(_, _, _) => false,
-        PushAt::Link(_, _) => false,
-        PushAt::Move(_, _) => false,
-    }
-}
-
-// Whether the place's step must take a node: internal.rs, `Global::push_bag`.
+// Whether the place's step must take a node: internal.rs, `Global::push_bag` stands before the load by which its bag is sealed.
+#[tactic(auto, unfolding(definition::specs::Public::takes_node))]
 pub fn takes_node(place: Place) -> bool
     ensures { result ≡ takes_node place }
 {
-    match place {
-        Place::Rest => false,
-        Place::Register(_) => false,
-        Place::PinEpoch(_) => false,
-        Place::PinWord(_, _) => false,
-        Place::Repin(_) => false,
-        Place::UnpinWord => false,
-        Place::AdvanceEpoch(_) => false,
-        Place::Walk(_, _) => false,
-        Place::AdvanceWord(_, _, _) => false,
-        Place::AdvanceStore(_) => false,
-        Place::Pop(_, _) => false,
-        Place::Push(_, at) => push_takes_node(at),
-        Place::FinalWord => false,
-        Place::FinalTag => false,
-    }
+    matches!(place, Place::Push(_, PushAt::Epoch))
 }

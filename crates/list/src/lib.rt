@@ -10,12 +10,9 @@ ghost use Rattle.std.specs.Prelude.{◌≡◌};
 ghost use Rattle.definition.specs.Rule.{asks, follows};
 ghost use Rattle.definition.specs.List.{insert, delete, pred_word, iterate};
 ghost use Rattle.definition.specs.declared.Participant.{Participant};
-ghost use Rattle.definition.specs.declared.Ptr.{Ptr};
-ghost use Rattle.definition.specs.declared.RegisterAt.{RegisterAt};
 ghost use Rattle.definition.specs.declared.Seen.{Seen};
 ghost use Rattle.definition.specs.declared.Slot.{Slot};
 ghost use Rattle.definition.specs.declared.Try.{Try};
-ghost use Rattle.definition.specs.declared.WalkAt.{WalkAt};
 ghost use Rattle.list.specs.Fits.{RegisterFits, WalkFits};
 
 use definition::{
@@ -25,6 +22,7 @@ use definition::{
 use flow::links::{is_tagged, link, pointee, pointer};
 
 // `List::insert`, of the entry of `me` into the head of the list.
+#[tactic(auto, unfolding(definition::specs::Rule::asks, definition::specs::List::insert))]
 pub fn insert_asks(me: Slot, at: RegisterAt) -> Ask
     requires { RegisterFits me at }
     ensures { (o : Participant) → result ≡ asks (insert me o at) }
@@ -33,48 +31,33 @@ pub fn insert_asks(me: Slot, at: RegisterAt) -> Ask
         // Read the current successor of where we want to insert.
         RegisterAt::Head => Ask::Load(Word::ListHead),
         // Set the entry to point to it.
-        RegisterAt::Next(next) => {
-            let successor = pointer(next);
-            Ask::Store(Word::EntryNext(me), successor)
-        }
-        RegisterAt::Link(next) => {
-            let expected = pointer(next);
-            let entry = link(me.0);
-            Ask::ExchangeWeak(Word::ListHead, expected, entry)
-        }
+        RegisterAt::Next(next) => Ask::Store(Word::EntryNext(me), pointer(next)),
+        RegisterAt::Link(next) => Ask::ExchangeWeak(Word::ListHead, pointer(next), link(me.0)),
     }
 }
 
-// Where we lost the race, update the successor and try again.
-fn insert_link(me: Slot, o: Participant, seen: Seen) -> After
-    ensures { (next : Ptr) → result ≡ follows (insert me o (RegisterAt.Link next)) seen }
-{
-    let inserted = flow::done(me.0, o);
-    let current = pointee(seen.value);
-    let again = flow::on(Place::Register(RegisterAt::Next(current)), o);
-    flow::pick_after(seen.won, inserted, again)
-}
-
+#[tactic(auto, unfolding(definition::specs::Base::branch, definition::specs::Rule::follows, definition::specs::List::insert))]
 pub fn insert_follows(me: Slot, o: Participant, at: RegisterAt, seen: Seen) -> After
     ensures { result ≡ follows (insert me o at) seen }
 {
     match at {
-        RegisterAt::Head => {
-            let next = pointee(seen.value);
-            flow::on(Place::Register(RegisterAt::Next(next)), o)
-        }
+        RegisterAt::Head => flow::on(Place::Register(RegisterAt::Next(pointee(seen.value))), o),
         RegisterAt::Next(next) => flow::on(Place::Register(RegisterAt::Link(next)), o),
-        RegisterAt::Link(_) => insert_link(me, o, seen),
+        RegisterAt::Link(_) if seen.won => flow::done(me.0, o),
+        // We lost the race: update the successor and try again.
+        RegisterAt::Link(_) => flow::on(Place::Register(RegisterAt::Next(pointee(seen.value))), o),
     }
 }
 
 // `Entry::delete`: marks the entry of `me` as deleted, deferring the actual deallocation to a later iteration.
+#[tactic(auto, unfolding(definition::specs::Rule::asks, definition::specs::List::delete))]
 pub fn delete_asks(me: Slot) -> Ask
     ensures { (o : Participant) → result ≡ asks (delete me o) }
 {
     Ask::FetchOr(Word::EntryNext(me))
 }
 
+#[tactic(auto, unfolding(definition::specs::Rule::follows, definition::specs::List::delete))]
 pub fn delete_follows(o: Participant) -> After
     ensures { (me : Slot) (seen : Seen) → result ≡ follows (delete me o) seen }
 {
@@ -82,6 +65,7 @@ pub fn delete_follows(o: Participant) -> After
 }
 
 // `Iter::pred`: the word in which the link to the current entry stands.
+#[tactic(auto, unfolding(definition::specs::List::pred_word))]
 fn pred_word(pred: Pred) -> Word
     ensures { result ≡ pred_word pred }
 {
@@ -92,71 +76,46 @@ fn pred_word(pred: Pred) -> Word
 }
 
 // `List::iter`, then `Iter::next`, for a `try_advance`.
+#[tactic(auto, unfolding(definition::specs::Rule::asks, definition::specs::List::iterate))]
 pub fn iterate_asks(at: WalkAt) -> Ask
     requires { WalkFits at }
     ensures { (t : Try) (o : Participant) → result ≡ asks (iterate t o at) }
 {
     match at {
         WalkAt::Head => Ask::Load(Word::ListHead),
-        WalkAt::Next(c) => {
-            let curr = c.curr;
-            Ask::Load(Word::EntryNext(curr))
-        }
+        WalkAt::Next(Cursor { curr, .. }) => Ask::Load(Word::EntryNext(curr)),
         // Try to unlink `curr` from the list, and get the new value of `pred`.
-        WalkAt::Unlink(c, succ) => {
-            let pred = c.pred;
-            let curr = c.curr;
-            let word = pred_word(pred);
-            let expected = link(curr.0);
-            let new = pointer(succ);
-            Ask::Exchange(word, expected, new)
+        WalkAt::Unlink(Cursor { pred, curr }, succ) => {
+            Ask::Exchange(pred_word(pred), link(curr.0), pointer(succ))
         }
         WalkAt::Stalled => Ask::Load(Word::ListHead),
     }
 }
 
-// A tagged entry was removed: try unlinking it. Any other is returned to `try_advance`, which looks at its epoch.
-fn iterate_next(t: Try, o: Participant, c: Cursor, seen: Seen) -> After
-    ensures { result ≡ follows (iterate t o (WalkAt.Next c)) seen }
-{
-    let succ = pointee(seen.value);
-    let curr = c.curr;
-    let unlink = flow::on(Place::Walk(t, WalkAt::Unlink(c, succ)), o);
-    let entry = flow::on(Place::AdvanceWord(t, curr, succ), o);
-    let removed = is_tagged(seen.value);
-    flow::pick_after(removed, unlink, entry)
-}
-
-// We succeeded in unlinking `curr`, so we have to schedule deallocation. Where we lost, the value found is the successor, unless it is
-// tagged: then the predecessor is deleted too, and the iteration stalls.
-fn iterate_unlink(t: Try, o: Participant, c: Cursor, succ: Ptr, seen: Seen) -> After
-    ensures { result ≡ follows (iterate t o (WalkAt.Unlink c succ)) seen }
-{
-    let unlinked = flow::defer(Deferring::Slot(t, c, succ), o);
-    let stalled = flow::on(Place::Walk(t, WalkAt::Stalled), o);
-    let pred = c.pred;
-    let curr = pointee(seen.value);
-    let over = flow::walk(t, pred, curr, o);
-    let deleted = is_tagged(seen.value);
-    let lost = flow::pick_after(deleted, stalled, over);
-    flow::pick_after(seen.won, unlinked, lost)
-}
-
+#[tactic(auto, unfolding(definition::specs::Base::branch, definition::specs::Rule::follows, definition::specs::List::iterate))]
 pub fn iterate_follows(t: Try, o: Participant, at: WalkAt, seen: Seen) -> After
     ensures { result ≡ follows (iterate t o at) seen }
 {
     match at {
-        WalkAt::Head => {
-            let curr = pointee(seen.value);
-            flow::walk(t, Pred::Head, curr, o)
+        WalkAt::Head => flow::walk(t, Pred::Head, pointee(seen.value), o),
+        // A tagged entry was removed: try unlinking it.
+        WalkAt::Next(c) if is_tagged(seen.value) => {
+            let succ = pointee(seen.value);
+            flow::on(Place::Walk(t, WalkAt::Unlink(c, succ)), o)
         }
-        WalkAt::Next(c) => iterate_next(t, o, c, seen),
-        WalkAt::Unlink(c, succ) => iterate_unlink(t, o, c, succ, seen),
+        // Any other is returned to `try_advance`, which looks at its epoch.
+        WalkAt::Next(Cursor { curr, .. }) => {
+            flow::on(Place::AdvanceWord(t, curr, pointee(seen.value)), o)
+        }
+        // We succeeded in unlinking `curr`, so we have to schedule deallocation.
+        WalkAt::Unlink(c, succ) if seen.won => flow::defer(Deferring::Slot(t, c, succ), o),
+        // We lost, and the value found is tagged: the predecessor is deleted too, and the iteration stalls.
+        WalkAt::Unlink(_, _) if is_tagged(seen.value) => {
+            flow::on(Place::Walk(t, WalkAt::Stalled), o)
+        }
+        // We lost, and the value found is the successor.
+        WalkAt::Unlink(Cursor { pred, .. }, _) => flow::walk(t, pred, pointee(seen.value), o),
         // At `Err(Stalled)` `try_advance` gives up, and returns the epoch that it loaded.
-        WalkAt::Stalled => {
-            let owner = t.owner;
-            let epoch = t.epoch;
-            flow::advanced(owner, epoch, o)
-        }
+        WalkAt::Stalled => flow::advanced(t.owner, t.epoch, o),
     }
 }

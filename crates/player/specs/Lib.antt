@@ -1,2 +1,3 @@
 -- What the promises of `player` cite beside the definition and `script`.
 pub mod Records
+pub mod Owned

@@ -1,73 +1,80 @@
 -- Ranges row by row, and sizes: laws that the proofs of the functions cite, and crates above. Assumes nothing.
 use mathlib.Core.Path.{◌≡◌, refl, ap, sym, ◌∙◌}
-use mathlib.Core.Bool.{Bool, true, false, ◌&&◌, not}
+use mathlib.Core.Bool.{Bool, true, false, ◌&&◌}
 use mathlib.Core.List.{List}
-use Prim.Native.Nat.{ℕ, ◌+◌, ◌*◌, ◌≤◌, ◌<◌}
+use Prim.Native.Nat.{ℕ, zero, suc, ◌+◌, ◌-◌, ◌*◌, ◌≤◌, ◌<◌}
 use native.Mathlib.Omega.{arith}
-use native.Mathlib.Nat.{add-zero}
+use native.Mathlib.Nat.{add-zero, zero-add}
 use native.Mathlib.Numerals.{add-one}
-use lib.Dec.{leb}
-use lib.ListN.{get_or}
-use borrow.Author.Tests.{leb-true, le-leb, lt-leb, not-true, not-false}
+use lib.Dec.{eqb, leb}
+use lib.ListN.{get_or, length, take, drop}
+use lib.Seq.{take-length}
+use Rattle.std.specs.List.{list_all, range_with_len}
+use Rattle.std.proofs.lemmas.List.{get_or-take, get_or-drop, length-take-le, length-drop}
+use Rattle.std.proofs.lemmas.List.Folds.{list_all_more}
+use Rattle.std.proofs.lemmas.List.FromFn.{length-range_with_len, get_or-range_with_len}
+use borrow.Author.Tests.{leb-true, le-leb}
 use Rattle.definition.specs.Base.{Tab, all}
 use Rattle.definition.specs.Bags.{max_objects}
 use Rattle.definition.specs.Ranges.{within_limits, max_participants, max_nodes, bit_words, item_in, bag_in, record_in, bits_in, shared_in, in_range}
 use Rattle.definition.specs.Ranges.{entry_pointer_in, head_pointer_in, node_pointer_in, end_pointer_in}
-use Rattle.definition.specs.Layout.{Lent, cell, participant_words, node_words, global_words, record_at, sized, bits, slot_bits, node_bits, shared_from, bag_from, tables_of}
+use Rattle.definition.specs.Layout.{Lent, cell, participant_words, node_words, global_words, record_at, sized, bits, slot_bits, node_bits}
+use Rattle.definition.specs.Layout.{shared_from, bag_from, tables_of}
 use Rattle.definition.proofs.Base.{both, and_intro, all_at, all_intro}
 use Rattle.definition.proofs.Lists.{cell_in}
 use Rattle.bits.specs.Bits.{words_at, within}
-use Rattle.bits.proofs.Table.{all_not, all_ext}
-use Rattle.ranges.specs.Rows.{items_from, participant_in, node_row_in, globals_in}
+use Rattle.bits.proofs.Table.{all_ext}
+use Rattle.ranges.specs.Rows.{participant_in, node_row_in, globals_in}
 
--- ---- a loop that asks of one index after the other: b is the answer at index i
+-- ---- a test of each number of a list, and of each index
 
--- no: so not all are marked
-pub all_stop : (n : ℕ) (f : Tab Bool) (i : ℕ) (b : Bool) → i < n → b ≡ f i → not b ≡ true → false ≡ all n f
-all_stop n f i b l e h = sym (all_not n f i l (sym e ∙ not-true b h))
-
--- yes: one more is marked
-pub all_more : (f : Tab Bool) (i : ℕ) (b : Bool) → all i f ≡ true → b ≡ f i → not b ≡ false → all (i + 1) f ≡ true
+-- of a list's first i
+list_all_first : (p : ℕ → Bool) (xs : List ℕ) (i : ℕ) → i ≤ length xs → list_all p (take i xs) ≡ all i (λ j. p (get_or xs j 0))
 unfolding all
-all_more f i b h e y = rw (add-one i, h) (sym e ∙ not-false b y)
+list_all_first p xs zero l = refl
+list_all_first p xs (suc i) l =
+    let h : list_all p (take i xs) ≡ all i (λ j. p (get_or xs j 0)) = list_all_first p xs i (omega arith) in
+    rw (← h) (rw (add-one i) at (list_all_more p xs i 0 (omega arith)))
 
--- the end: all are marked
-pub all_end : (n : ℕ) (f : Tab Bool) (i : ℕ) → i ≤ n → n ≤ i → all i f ≡ true → true ≡ all n f
-all_end n f i l g h = let e : i ≡ n = omega arith in sym (rw e at h)
+-- of all of a list
+pub all_list : (p : ℕ → Bool) (xs : List ℕ) → list_all p xs ≡ all (length xs) (λ j. p (get_or xs j 0))
+all_list p xs = rw (take-length xs) at (list_all_first p xs (length xs) (omega arith))
+
+-- of the first n indices
+pub all_indices : (p : ℕ → Bool) (n : ℕ) → list_all p (range_with_len 0 n) ≡ all n p
+all_indices p n =
+    all_list p (range_with_len 0 n) ∙ rw (length-range_with_len 0 n)
+    (all_ext n (λ j. p (get_or (range_with_len 0 n) j 0)) p (λ j l. ap p (get_or-range_with_len 0 n j 0 l ∙ zero-add j)))
 
 -- ---- bags
 
--- a bag that is too long
-pub bag_over : (N M k : ℕ) (d : Tab ℕ) → 64 < k → false ≡ bag_in N M k d
-unfolding bag_in max_objects
-bag_over N M k d h = rw (lt-leb k 64 h)
-
 -- a bag in a row of 64 words: the words from the row's first on
-pub bag-row : (N M k : ℕ) (l : List ℕ) (row : ℕ) → k ≤ 64 → all k (items_from N M l (row * 64)) ≡ bag_in N M k (cell max_objects l row)
-unfolding bag_in max_objects items_from
-bag-row N M k l row h =
-    rw (le-leb k 64 h)
-    (all_ext k (λ j. item_in N M (get_or l (row * 64 + j) 0)) (λ j. item_in N M (cell 64 l row j))
-    (λ j lt. ap (item_in N M) (sym (cell_in 64 l row j (omega arith)))))
+pub bag_row : (N M k : ℕ) (l : List ℕ) (row : ℕ) → k ≤ 64 → row * 64 + 64 ≤ length l
+    → list_all (item_in N M) (take (row * 64 + k - row * 64) (drop (row * 64) l)) ≡ bag_in N M k (cell max_objects l row)
+unfolding bag_in max_objects
+bag_row N M k l row h fits =
+    let e : row * 64 + k - row * 64 ≡ k = omega arith in
+    let len : length (take k (drop (row * 64) l)) ≡ k = length-take-le k (drop (row * 64) l) (rw (length-drop (row * 64) l) (omega arith)) in
+    let at = λ (j : ℕ) (lt : j < k). get_or-take k (drop (row * 64) l) j 0 lt ∙ get_or-drop (row * 64) l j 0 ∙ sym (cell_in 64 l row j (omega arith)) in
+    rw (e, le-leb k 64 h)
+    (all_list (item_in N M) (take k (drop (row * 64) l)) ∙ rw len
+    (all_ext k (λ j. item_in N M (get_or (take k (drop (row * 64) l)) j 0)) (λ j. item_in N M (cell 64 l row j)) (λ j lt. ap (item_in N M) (at j lt))))
 
--- ---- rows
+-- ---- words of rows
 
--- a participant's row: its link is the second word
-link-cell : (p : List ℕ) (i : ℕ) → get_or p (i * 21 + 1) 0 ≡ cell participant_words p i 1
+-- a participant's link is the second word of its row
+pub link_cell : (p : List ℕ) (i : ℕ) → cell participant_words p i 1 ≡ get_or p (i * 21 + 1) 0
 unfolding participant_words
-link-cell p i = sym (cell_in 21 p i 1 (omega arith))
+link_cell p i = cell_in 21 p i 1 (omega arith)
 
-pub participant_row : (N M aside : ℕ) (p h : List ℕ) (i : ℕ)
-    → (entry_pointer_in N M (get_or p (i * 21 + 1) 0) && record_in N M aside (record_at (cell participant_words p i))
-    && bag_in N M (record_at (cell participant_words p i)).held (cell max_objects h i)) ≡ participant_in N M aside p h i
-unfolding participant_in
-participant_row N M aside p h i = rw (link-cell p i)
+-- a node's next is the first word of its row, and the length of its bag the third
+pub next_cell : (n : List ℕ) (k : ℕ) → cell node_words n k 0 ≡ get_or n (k * 3) 0
+unfolding node_words
+next_cell n k = cell_in 3 n k 0 (omega arith) ∙ rw (add-zero (k * 3))
 
--- a node's row, word by word
-pub node-row : (N M : ℕ) (n q : List ℕ) (k : ℕ)
-    → (node_pointer_in N M (get_or n (k * 3) 0) && bag_in N M (get_or n (k * 3 + 2) 0) (cell max_objects q k)) ≡ node_row_in N M n q k
-unfolding node_row_in node_words
-node-row N M n q k = rw (cell_in 3 n k 0 (omega arith), cell_in 3 n k 2 (omega arith), add-zero (k * 3))
+pub len_cell : (n : List ℕ) (k : ℕ) → cell node_words n k 2 ≡ get_or n (k * 3 + 2) 0
+unfolding node_words
+len_cell n k = cell_in 3 n k 2 (omega arith)
 
 -- ---- rows and columns
 
@@ -155,6 +162,13 @@ in_range-rows N M l =
 
 -- ---- sizes
 
+-- the lengths, by their numbers
+pub sized_words : (N M : ℕ) (l : Lent)
+    → (eqb (length l.globals) (5 + bit_words N + bit_words M) && eqb (length l.participants) (N * 21) && eqb (length l.nodes) (M * 3)
+    && eqb (length l.held) (N * 64) && eqb (length l.queued) (M * 64)) ≡ sized N M l
+unfolding sized global_words participant_words node_words max_objects
+sized_words N M l = refl
+
 -- what it says that sizes are taken, for lists of the right lengths. Of the limits no more is known than this: a raised one, up to 4,096,
 -- changes no proof
 pub record Taken (N M : ℕ) (l : Lent) : Type 0 where
@@ -174,6 +188,9 @@ limits-small N M h =
     let n = leb-true N max_participants c.1 in
     let m = leb-true M max_nodes a.1 in
     (leb-true 1 N c.0, (omega arith, (leb-true 2 M b.1, omega arith)))
+
+-- what `sizes` cites of them
+pub ruleset limits = (limits-small)
 
 -- with the lengths
 pub sizes-taken : (N M : ℕ) (l : Lent) → (within_limits N M && sized N M l) ≡ true → Taken N M l

@@ -1,15 +1,11 @@
 -- The ranges row by row: what one participant's row and bag have to be, and what one node's have to be, where the lists are read as
 -- rows. One pass over a list looks at all that is in a row. The definition's `in_range` asks the same, column by column
 -- (`in_range-rows` of proofs/Laws). Assumes nothing.
-use Rattle.std.specs.Prelude.{Bool, ◌&&◌, List, ℕ, ◌+◌, leb, get_or}
+use Rattle.std.specs.Prelude.{Bool, ◌&&◌, List, ℕ, leb, get_or}
 use Rattle.definition.specs.Base.{Tab}
 use Rattle.definition.specs.Bags.{max_objects}
-use Rattle.definition.specs.Ranges.{entry_pointer_in, head_pointer_in, node_pointer_in, end_pointer_in, item_in, record_in, bag_in}
+use Rattle.definition.specs.Ranges.{entry_pointer_in, head_pointer_in, node_pointer_in, end_pointer_in, record_in, bag_in}
 use Rattle.definition.specs.Layout.{cell, participant_words, node_words, record_at}
-
--- the j-th word from `at` on: an item that is held
-unfoldable pub items_from : (N M : ℕ) (items : List ℕ) (at : ℕ) → Tab Bool
-items_from N M l at = λ j. item_in N M (get_or l (at + j) 0)
 
 -- participant i: the pointer to its next entry, its record beside a set-aside total, its bag
 unfoldable pub participant_in : (N M aside : ℕ) (participants held : List ℕ) → Tab Bool

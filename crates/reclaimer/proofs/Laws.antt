@@ -1,18 +1,19 @@
 -- Outcomes of public calls. Each call is a list of checks and what comes out where none of them holds, so two laws serve all: a check that refuses
 -- gives the refusal that the definition gives, and one that is fine hands on what the tables give. Assumes nothing.
 use mathlib.Core.Path.{◌≡◌, refl, ap, sym, ◌∙◌}
+use Rattle.std.specs.Prelude.{Result, Ok, Err}
 use mathlib.Core.Bool.{Bool, true, false, ◌&&◌, not}
 use mathlib.Core.List.{List, []}
-use Prim.Native.Nat.{ℕ, ◌^◌, ◌≤◌, ◌<◌}
+use Prim.Native.Nat.{ℕ, ◌≤◌}
 use native.Mathlib.Omega.{arith}
 use lib.Dec.{eqb}
-use lib.ListN.{length, get_or}
+use lib.ListN.{length}
 use borrow.Author.Tests.{not-true, not-false}
 use Rattle.definition.specs.Base.{branch, least}
 use Rattle.definition.specs.Bags.{max_objects}
 use Rattle.definition.specs.Calls.{opens}
-use Rattle.definition.specs.Layout.{Lent, lent, sized, tables_of, lent_of}
-use Rattle.definition.specs.Public.{Check, refusal, unless, refused, Outcome, outcome, kept, given, lending, register_checks, call_checks, step_checks}
+use Rattle.definition.specs.Layout.{Lent, sized, tables_of, lent_of}
+use Rattle.definition.specs.Public.{Check, refusal, unless, refused, Outcome, kept, given, lending, register_checks, call_checks, step_checks}
 use Rattle.definition.specs.Public.{the, enrolled, register, call, step, start_lent, register_lent, call_lent, step_lent}
 use Rattle.definition.specs.Ranges.{within_limits, fresh}
 use Rattle.definition.specs.Rule.{asks, fails}
@@ -23,14 +24,15 @@ use Rattle.definition.specs.declared.Call.{Call}
 use Rattle.definition.specs.declared.End.{End}
 use Rattle.definition.proofs.Base.{both, branch_ind}
 use Rattle.ranges.proofs.Laws.{limits-small}
-use Rattle.checks.specs.declared.Checked.{Checked}
-use Rattle.checks.specs.Refusals.{checked_of, sized_first, register_refusal, call_refusal, step_refusal}
-use Rattle.checks.proofs.Laws.{fine_is, register_fine, call_fine, step_fine}
+use Rattle.refusals.specs.declared.Refusal.{Refusal}
+use Rattle.refusals.proofs.Numbers.{positive}
+use Rattle.checks.specs.Refusals.{sized_first, register_refusal, call_refusal, step_refusal}
+use Rattle.checks.proofs.Laws.{register_fine, call_fine, step_fine}
 use Rattle.step.specs.Steps.{Steps, Leaves}
 use Rattle.enroll.specs.Enroll.{Enrolls, Enrolled}
 use Rattle.enroll.proofs.Laws.{may_enroll, leaves-enrolled}
 use Rattle.call.specs.Calls.{Calls}
-use Rattle.reclaimer.specs.Outcomes.{refused_of}
+use Rattle.reclaimer.specs.Outcomes.{outcome_of, number_of, refused_as}
 
 -- an answer that is no refusal
 unfoldable pub Goes : Answer → Type 0
@@ -52,14 +54,12 @@ given-goes N M l f out (Answer.Done v k) g r l' f' h = rw (h.answer, h.lent, h.f
 given-goes N M l f out (Answer.More k) g r l' f' h = rw (h.answer, h.lent, h.freed)
 given-goes N M l f out (Answer.Refused x) g r l' f' h = absurd g
 
--- a refusal is not 0
-pub refused_is : (k x : ℕ) → Checked.Refused x ≡ checked_of k → (x ≡ k) × (eqb k 0 ≡ false)
-unfolding checked_of branch
-refused_is k x e = by (eqb k 0) refl e
-  where
-    by : (b : Bool) → eqb k 0 ≡ b → Checked.Refused x ≡ branch b Checked.Fine (Checked.Refused k) → (x ≡ k) × (b ≡ false)
-    by true t h = let z : ◌≡◌ {A = ℕ} 0 1 = cc in absurd (omega arith)
-    by false t h = (cc, refl)
+-- what a check says: its number is 0 where it finds all fine, and is not where it refuses
+pub fine_is : (c : Result Unit Refusal) (u : Unit) (k : ℕ) → number_of c ≡ k → c ≡ Ok u → k ≡ 0
+fine_is c u k e is = sym e ∙ ap number_of is
+
+pub refused_is : (c : Result Unit Refusal) (x : Refusal) (k : ℕ) → number_of c ≡ k → c ≡ Err x → eqb k 0 ≡ false
+refused_is c x k e is = rw (sym e ∙ ap number_of is) (positive x)
 
 module _ (N M : ℕ) (l : Lent) (f : List ℕ) (t : Tables) (k : ℕ) (out : Out) where
   -- sizes, then a list of checks whose first refusal is k: refused; fine
@@ -84,25 +84,24 @@ module _ (N M : ℕ) (l : Lent) (f : List ℕ) (checks : Tables → List Check) 
   first = sized_first N M l (refusal (checks (tables_of N M l)))
 
   -- refused
-  pub refuses : (c : Checked) → c ≡ checked_of first → (x : ℕ) → c ≡ Checked.Refused x → (r : Answer) → r ≡ refused_of c
+  pub refuses : (c : Result Unit Refusal) → number_of c ≡ first → (x : Refusal) → c ≡ Err x → (r : Answer) → r ≡ refused_as c
       → record { answer = r; lent = l; freed = f } ≡ whole
-  unfolding lending unless refused_of
+  unfolding lending unless
   refuses c e x is r a =
       let k = refusal (checks (tables_of N M l)) in
       let t = tables_of N M l in
-      let h = refused_is first x (sym is ∙ e) in
-      ap (λ (y : Answer). record { answer = y; lent = l; freed = f }) (a ∙ rw (is, h.0))
-      ∙ first_refuses N M l f t k (go t) (within_limits N M && sized N M l) h.1
+      ap (λ (y : Answer). record { answer = y; lent = l; freed = f }) (a ∙ ap Answer.Refused e)
+      ∙ first_refuses N M l f t k (go t) (within_limits N M && sized N M l) (refused_is c x first e is)
 
   -- fine
-  pub goes_on_lem : (c : Checked) → c ≡ checked_of first → c ≡ Checked.Fine → Goes (go (tables_of N M l)).answer → (r : Answer) (l' : Lent) (f' : List ℕ)
-      → Leaves N M (go (tables_of N M l)) f r l' f' → record { answer = r; lent = l'; freed = f' } ≡ whole
+  pub goes_on_lem : (c : Result Unit Refusal) → number_of c ≡ first → (u : Unit) → c ≡ Ok u → Goes (go (tables_of N M l)).answer
+      → (r : Answer) (l' : Lent) (f' : List ℕ) → Leaves N M (go (tables_of N M l)) f r l' f' → record { answer = r; lent = l'; freed = f' } ≡ whole
   unfolding lending unless
-  goes_on_lem c e is g r l' f' h =
+  goes_on_lem c e u is g r l' f' h =
       let k = refusal (checks (tables_of N M l)) in
       let t = tables_of N M l in
       given-goes N M l f (go t) (go t).answer g r l' f' h
-      ∙ first_fine N M l f t k (go t) (within_limits N M && sized N M l) (fine_is first (sym is ∙ e))
+      ∙ first_fine N M l f t k (go t) (within_limits N M && sized N M l) (fine_is c u first e is)
 
 -- ---- a fresh start
 
@@ -118,11 +117,9 @@ module _ (N M : ℕ) (l : Lent) (b : Bool) (e : b ≡ (within_limits N M && size
       (omega arith, s.1)
 
   -- the five lists are the fresh ones
-  pub started : not b ≡ false → (g p n h q : List ℕ) → (g ≡ (lent_of N M (fresh N M)).globals) × ((p ≡ (lent_of N M (fresh N M)).participants)
-      × ((n ≡ (lent_of N M (fresh N M)).nodes) × ((h ≡ (lent_of N M (fresh N M)).held) × (q ≡ (lent_of N M (fresh N M)).queued))))
-      → outcome (Answer.Done 0 0) g p n h q [] ≡ start_lent N M l
+  pub started : not b ≡ false → (l' : Lent) → l' ≡ lent_of N M (fresh N M) → outcome_of (Answer.Done 0 0) l' [] ≡ start_lent N M l
   unfolding start_lent lending given branch
-  started u g p n h q a = rw (a.0, a.1.0, a.1.1.0, a.1.1.1.0, a.1.1.1.1, sym e ∙ not-false b u)
+  started u l' a = rw (a, sym e ∙ not-false b u)
 
 -- ---- a step
 
@@ -131,57 +128,56 @@ step-goes : (marked : Bool) (M p : ℕ) (t : Tables) → Goes (take_marked marke
 unfolding take_marked take_step follow
 step-goes marked M p t = branch_ind (λ (out : Out). Goes out.answer) (fails marked (asks (rule_at M p t))) (λ _. answer-goes _ _) (λ _. answer-goes _ _)
 
-module _ (N M p : ℕ) (l : Lent) (f : List ℕ) (c : Checked) (e : c ≡ checked_of (step_refusal N M l (length f) p)) where
-  pub step_refuses : (marked : Bool) (x : ℕ) → c ≡ Checked.Refused x → (r : Answer) → r ≡ refused_of c
+module _ (N M p : ℕ) (l : Lent) (f : List ℕ) (c : Result Unit Refusal) (e : number_of c ≡ step_refusal N M l (length f) p) where
+  pub step_refuses : (marked : Bool) (x : Refusal) → c ≡ Err x → (r : Answer) → r ≡ refused_as c
       → record { answer = r; lent = l; freed = f } ≡ step_lent N M l p marked f
   unfolding step_lent step step_refusal
   step_refuses marked x is r a = refuses N M l f (step_checks N M (length f) p) (take_marked marked M p) c e x is r a
 
-  pub may_step : c ≡ Checked.Fine → Steps N M p l f
+  pub may_step : (u : Unit) → c ≡ Ok u → Steps N M p l f
   unfolding max_objects
-  may_step is =
-      let s = step_fine N M l (length f) p (fine_is _ (sym is ∙ e)) in
+  may_step u is =
+      let s = step_fine N M l (length f) p (fine_is c u _ e is) in
       record { sound = s.sound; below = s.below; present = s.supplied; places = s.places-enough }
 
-  pub stepped : (marked : Bool) → c ≡ Checked.Fine → (r : Answer) (l' : Lent) (f' : List ℕ) → Leaves N M (take_marked marked M p (tables_of N M l)) f r l' f'
+  pub stepped : (marked : Bool) → (u : Unit) → c ≡ Ok u → (r : Answer) (l' : Lent) (f' : List ℕ) → Leaves N M (take_marked marked M p (tables_of N M l)) f r l' f'
       → record { answer = r; lent = l'; freed = f' } ≡ step_lent N M l p marked f
   unfolding step_lent step step_refusal
-  stepped marked is r l' f' h =
-      goes_on_lem N M l f (step_checks N M (length f) p) (take_marked marked M p) c e is (step-goes marked M p (tables_of N M l)) r l' f' h
+  stepped marked u is r l' f' h =
+      goes_on_lem N M l f (step_checks N M (length f) p) (take_marked marked M p) c e u is (step-goes marked M p (tables_of N M l)) r l' f' h
 
 -- ---- a registration
 
-module _ (N M : ℕ) (l : Lent) (c : Checked) (e : c ≡ checked_of (register_refusal N M l)) where
-  pub register_refuses : (x : ℕ) → c ≡ Checked.Refused x → (r : Answer) → r ≡ refused_of c → record { answer = r; lent = l; freed = [] } ≡ register_lent N M l
+module _ (N M : ℕ) (l : Lent) (c : Result Unit Refusal) (e : number_of c ≡ register_refusal N M l) where
+  pub register_refuses : (x : Refusal) → c ≡ Err x → (r : Answer) → r ≡ refused_as c → record { answer = r; lent = l; freed = [] } ≡ register_lent N M l
   unfolding register_lent register register_refusal
   register_refuses x is r a = refuses N M l [] (register_checks N M) (λ t. enrolled (least N t.slot_free) t) c e x is r a
 
-  pub may_register : c ≡ Checked.Fine → Enrolls N l.globals l.participants
-  may_register is =
-      let f = register_fine N M l (fine_is _ (sym is ∙ e)) in
+  pub may_register : (u : Unit) → c ≡ Ok u → Enrolls N l
+  may_register u is =
+      let f = register_fine N M l (fine_is c u _ e is) in
       may_enroll N M l f.sound f.free
 
-  pub registered : c ≡ Checked.Fine → (r : Answer) (g' ps' n' : List ℕ) → Enrolled N l.globals l.participants l.nodes r g' ps' n'
-      → ((j : ℕ) → get_or g' j 0 < 2 ^ 64) → record { answer = r; lent = lent g' ps' n' l.held l.queued; freed = [] } ≡ register_lent N M l
+  pub registered : (u : Unit) → c ≡ Ok u → (r : Answer) (l' : Lent) → Enrolled N l r l' → record { answer = r; lent = l'; freed = [] } ≡ register_lent N M l
   unfolding register_lent register register_refusal enrolled Goes
-  registered is r g' ps' n' h fits =
-      let f = register_fine N M l (fine_is _ (sym is ∙ e)) in
-      goes_on_lem N M l [] (register_checks N M) (λ t. enrolled (least N t.slot_free) t) c e is tt r _ []
-      (leaves-enrolled N M l f.sound f.free r g' ps' n' h fits)
+  registered u is r l' h =
+      let f = register_fine N M l (fine_is c u _ e is) in
+      goes_on_lem N M l [] (register_checks N M) (λ t. enrolled (least N t.slot_free) t) c e u is tt r l' []
+      (leaves-enrolled N M l f.sound f.free r l' h)
 
 -- ---- a call
 
-module _ (N M p : ℕ) (k : Call) (l : Lent) (c : Checked) (e : c ≡ checked_of (call_refusal N M l p k)) where
-  pub call_refuses : (x : ℕ) → c ≡ Checked.Refused x → (r : Answer) → r ≡ refused_of c → record { answer = r; lent = l; freed = [] } ≡ call_lent N M l p k
+module _ (N M p : ℕ) (k : Call) (l : Lent) (c : Result Unit Refusal) (e : number_of c ≡ call_refusal N M l p k) where
+  pub call_refuses : (x : Refusal) → c ≡ Err x → (r : Answer) → r ≡ refused_as c → record { answer = r; lent = l; freed = [] } ≡ call_lent N M l p k
   unfolding call_lent call call_refusal
   call_refuses x is r a = refuses N M l [] (call_checks N M p k) (λ t. follow p (opens N k (the p t)) t) c e x is r a
 
-  pub may_call : c ≡ Checked.Fine → Calls N M p k l
-  may_call is =
-      let f = call_fine N M l p k (fine_is _ (sym is ∙ e)) in
+  pub may_call : (u : Unit) → c ≡ Ok u → Calls N M p k l
+  may_call u is =
+      let f = call_fine N M l p k (fine_is c u _ e is) in
       record { sound = f.sound; below = f.below; rests = f.rests; small = f.small; enough = f.enough }
 
-  pub called : c ≡ Checked.Fine → (r : Answer) (l' : Lent) → Leaves N M (follow p (opens N k (the p (tables_of N M l))) (tables_of N M l)) [] r l' []
+  pub called : (u : Unit) → c ≡ Ok u → (r : Answer) (l' : Lent) → Leaves N M (follow p (opens N k (the p (tables_of N M l))) (tables_of N M l)) [] r l' []
       → record { answer = r; lent = l'; freed = [] } ≡ call_lent N M l p k
   unfolding call_lent call call_refusal follow
-  called is r l' h = goes_on_lem N M l [] (call_checks N M p k) (λ t. follow p (opens N k (the p t)) t) c e is (answer-goes _ _) r l' [] h
+  called u is r l' h = goes_on_lem N M l [] (call_checks N M p k) (λ t. follow p (opens N k (the p t)) t) c e u is (answer-goes _ _) r l' [] h

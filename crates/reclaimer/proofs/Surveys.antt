@@ -15,14 +15,15 @@ use Rattle.definition.specs.Survey.{report_of, survey_lent}
 use Rattle.definition.specs.declared.Answer.{Answer}
 use Rattle.definition.specs.declared.Report.{Report}
 use Rattle.definition.proofs.Lists.{sized_is}
-use Rattle.checks.specs.declared.Checked.{Checked}
-use Rattle.checks.specs.Refusals.{checked_of, damage_of}
-use Rattle.checks.proofs.Laws.{fine_is, damage_none}
+use Rattle.std.specs.Prelude.{Result, Ok, Err}
+use Rattle.refusals.specs.declared.Refusal.{Refusal}
+use Rattle.checks.specs.Refusals.{damage_of}
+use Rattle.checks.proofs.Laws.{damage_none}
 use Rattle.survey.specs.Surveys.{tabulate, report_in, survey_refusal}
 use Rattle.survey.proofs.Laws.{report_in_lem}
 use Rattle.survey.proofs.Tab.{tab_at}
-use Rattle.reclaimer.specs.Outcomes.{surveyed_as, granted_of, surveyed_of}
-use Rattle.reclaimer.proofs.Laws.{refused_is}
+use Rattle.reclaimer.specs.Outcomes.{surveyed_as, number_of, refused_as}
+use Rattle.reclaimer.proofs.Laws.{fine_is, refused_is}
 
 -- two tables that agree below n have the same first n entries
 listed_same : {A : Type 0} (n : ℕ) (f g : Tab A) → ((i : ℕ) → i < n → f i ≡ g i) → listed n f ≡ listed n g
@@ -39,17 +40,6 @@ module _ (N M : ℕ) (l : Lent) (before : List Report) where
       by : (b : Bool) → eqb (length before) N ≡ b → branch b (damage_of N M l) 2 ≡ 0 → (length before ≡ N) × (damage_of N M l ≡ 0)
       by true t e = (eqb-true _ _ t, e)
       by false t e = absurd (omega arith)
-
-  -- what is granted has its places, and is read from lists that are long enough
-  pub survey-fits : (c : Checked) → c ≡ checked_of (survey_refusal N M l (length before)) → (k : ℕ) → k ≡ granted_of c N
-      → (k ≤ length before) × ((bit_words k ≤ length l.globals - 5) × (k * 21 ≤ length l.participants))
-  unfolding granted_of bit_words
-  survey-fits Checked.Fine e k g =
-      let f = fine_places (fine_is _ e) in
-      let w = damage_none N M l f.1 in
-      let s = sized_is N M l w.lengths in
-      rw g (omega arith, (rw s.globals (omega arith), rw s.participants (omega arith)))
-  survey-fits (Checked.Refused x) e k g = rw g (omega arith, (omega arith, omega arith))
 
   -- the definition's survey where the check refuses, and where it does not
   says-refused : (k : ℕ) → k ≡ survey_refusal N M l (length before) → eqb k 0 ≡ false → surveyed_as (Answer.Refused k) before ≡ survey_lent N M l before
@@ -72,17 +62,33 @@ module _ (N M : ℕ) (l : Lent) (before : List Report) where
       let w = damage_none N M l f.1 in
       rw (w.limits, w.lengths, eq-eqb (length before) N f.0, w.range)
 
-  pub survey-says : (c : Checked) → c ≡ checked_of (survey_refusal N M l (length before)) → (k : ℕ) → k ≡ granted_of c N → (r : Answer) → r ≡ surveyed_of c
-      → surveyed_as r (tabulate (report_in l.globals l.participants) k ++ drop k before) ≡ survey_lent N M l before
-  unfolding granted_of surveyed_of listed
-  survey-says Checked.Fine e k g r a =
-      let z = fine_is _ e in
-      let f = fine_places z in
-      let h : length before ≤ N = omega arith in
-      rw (a, g, drop_of_length-le before h, append-nil, listed_same N (report_in l.globals l.participants) (report_of (tables_of N M l)) (λ i lt. report_in_lem N M l i lt)) (says_fine z)
-  survey-says (Checked.Refused x) e k g r a =
-      let h = refused_is (survey_refusal N M l (length before)) x e in
-      rw (a, g) (says-refused x h.0 (rw h.0 h.1))
+  module _ (c : Result Unit Refusal) (e : number_of c ≡ survey_refusal N M l (length before)) where
+    -- what is fine has its places, and is read from lists that are long enough
+    pub survey_fits : (u : Unit) → c ≡ Ok u → (N ≤ length before) × ((bit_words N ≤ length l.globals - 5) × (N * 21 ≤ length l.participants))
+    unfolding bit_words
+    survey_fits u is =
+        let f = fine_places (fine_is c u _ e is) in
+        let w = damage_none N M l f.1 in
+        let s = sized_is N M l w.lengths in
+        (omega arith, (rw s.globals (omega arith), rw s.participants (omega arith)))
+
+    -- what is refused is refused with its number, and the list stays
+    pub survey_refuses : (x : Refusal) → c ≡ Err x → (r : Answer) → r ≡ refused_as c → surveyed_as r before ≡ survey_lent N M l before
+    survey_refuses x is r a = rw a (says-refused (number_of c) e (rw e (refused_is c x _ e is)))
+
+    -- what is fine is filled
+    pub survey_fills : (u : Unit) → c ≡ Ok u
+        → surveyed_as (Answer.Done 0 0) (tabulate (report_in l.globals l.participants) N ++ drop N before) ≡ survey_lent N M l before
+    unfolding listed
+    survey_fills u is =
+        let z = fine_is c u _ e is in
+        let f = fine_places z in
+        let h : length before ≤ N = omega arith in
+        rw (
+          drop_of_length-le before h,
+          append-nil,
+          listed_same N (report_in l.globals l.participants) (report_of (tables_of N M l)) (λ i lt. report_in_lem N M l i lt),
+        ) (says_fine z)
 
   -- each report of a survey that is not refused
   pub survey_at : survey_refusal N M l (length before) ≡ 0 → (i : ℕ) (d : Report) → i < N → get_or (survey_lent N M l before).reports i d ≡ report_of (tables_of N M l) i

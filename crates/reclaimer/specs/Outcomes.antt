@@ -1,24 +1,25 @@
--- What a check's answer becomes: a refusal as an answer, and a survey's outcome. Assumes nothing.
-use Rattle.std.specs.Prelude.{List, ℕ}
+-- What a check's answer becomes: a refusal as an answer; and an outcome in its parts. Assumes nothing.
+use Rattle.std.specs.Prelude.{List, ℕ, Result}
+use Rattle.definition.specs.Layout.{Lent}
+use Rattle.definition.specs.Public.{Outcome, outcome}
 use Rattle.definition.specs.Survey.{Surveyed}
 use Rattle.definition.specs.declared.Answer.{Answer}
 use Rattle.definition.specs.declared.Report.{Report}
-use Rattle.checks.specs.declared.Checked.{Checked}
+use Rattle.refusals.specs.declared.Refusal.{Refusal}
+use Rattle.refusals.specs.Numbers.{refused}
 
--- a refusal as an answer. `Fine` is none: 0 is the number of no refusal
-unfoldable pub refused_of : Checked → Answer
-refused_of Checked.Fine = Answer.Refused 0
-refused_of (Checked.Refused k) = Answer.Refused k
+-- an answer, with the lent lists as one and the list for freed tokens: the definition's `outcome`
+abbrev pub outcome_of : Answer → Lent → List ℕ → Outcome
+outcome_of r l f = outcome r l.globals l.participants l.nodes l.held l.queued f
+
+-- the number of a check's answer: that of its refusal, and 0 where there is none
+abbrev pub number_of : Result Unit Refusal → ℕ
+number_of c = refused c
+
+-- a check's answer as a call's: its number. 0 is the number of no refusal
+abbrev pub refused_as : Result Unit Refusal → Answer
+refused_as c = Answer.Refused (number_of c)
 
 -- of a survey: the answer, and the list of reports
 abbrev pub surveyed_as : Answer → List Report → Surveyed
 surveyed_as r l = record { answer = r; reports = l }
-
--- how many reports a survey of n participants gives, and its answer
-unfoldable pub granted_of : Checked → ℕ → ℕ
-granted_of Checked.Fine n = n
-granted_of (Checked.Refused k) n = 0
-
-unfoldable pub surveyed_of : Checked → Answer
-surveyed_of Checked.Fine = Answer.Done 0 0
-surveyed_of (Checked.Refused k) = Answer.Refused k

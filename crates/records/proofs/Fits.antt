@@ -22,6 +22,9 @@ use Rattle.definition.specs.declared.PopAt.{PopAt}
 use Rattle.definition.specs.declared.PushAt.{PushAt}
 use Rattle.definition.specs.declared.Place.{Place}
 use Rattle.definition.specs.declared.Code.{Code}
+use Rattle.definition.specs.Preds.{ptr_of_pred}
+use Rattle.definition.proofs.Preds.{pred_word}
+use Rattle.flow.specs.Words.{PtrFits}
 use Rattle.records.specs.Stores.{PointersFit}
 
 -- both pointers; none
@@ -31,15 +34,27 @@ fit p s = record { pred = p; succ = s }
 none : 0 < 2 ^ 64
 none = omega arith
 
+-- a pointer, or a predecessor, whose word fits is one that crate `flow` writes
+pub word_fits : (q : Ptr) → pointer q < 2 ^ 64 → PtrFits q
+unfolding pointer link
+word_fits Ptr.Null h = tt
+word_fits (Ptr.At s) h = omega arith
+
+pub pred_fits : (q : Pred) → pred_pointer q < 2 ^ 64 → PtrFits (ptr_of_pred q)
+pred_fits q h = word_fits (ptr_of_pred q) (rw pred_word h)
+
+-- what the functions that write one cite
+pub ruleset pointers = (word_fits, pred_fits, pred_word)
+
 -- a place of a push carries the pointers of what the push goes on with, and no others
-pub push-fits : (f : Then) (a : PushAt) → PointersFit (code_of (Place.Push f a)) → PointersFit (then_code f)
+pub push_fits : (f : Then) (a : PushAt) → PointersFit (code_of (Place.Push f a)) → PointersFit (then_code f)
 unfolding code_of
-push-fits f PushAt.Epoch h = fit h.pred h.succ
-push-fits f (PushAt.Tail new) h = fit h.pred h.succ
-push-fits f (PushAt.Next new onto) h = fit h.pred h.succ
-push-fits f (PushAt.Help new onto next) h = fit h.pred h.succ
-push-fits f (PushAt.Link new onto) h = fit h.pred h.succ
-push-fits f (PushAt.Move new onto) h = fit h.pred h.succ
+push_fits f PushAt.Epoch h = fit h.pred h.succ
+push_fits f (PushAt.Tail new) h = fit h.pred h.succ
+push_fits f (PushAt.Next new onto) h = fit h.pred h.succ
+push_fits f (PushAt.Help new onto next) h = fit h.pred h.succ
+push_fits f (PushAt.Link new onto) h = fit h.pred h.succ
+push_fits f (PushAt.Move new onto) h = fit h.pred h.succ
 
 pub fits-push : (f : Then) (a : PushAt) → PointersFit (then_code f) → PointersFit (code_of (Place.Push f a))
 unfolding code_of

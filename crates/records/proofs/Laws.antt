@@ -3,14 +3,15 @@
 use mathlib.Core.Path.{◌≡◌, refl, ap, sym, ◌∙◌, fun_ext}
 use mathlib.Core.Bool.{Bool, true, false}
 use mathlib.Core.Logic.{◌≢◌}
-use mathlib.Core.List.{List, [], ◌∷◌, ◌++◌}
+use mathlib.Core.List.{List, [], ◌∷◌}
 use Prim.Native.Nat.{ℕ, suc, ◌+◌, ◌*◌, ◌/◌, ◌%◌, ◌≤◌, ◌<◌}
 use native.Mathlib.Nat.{add-zero, mul-add-div_right, mul-add-mod_self_right, div-eq_of_lt, mod-eq_of_lt}
-use native.Mathlib.Numerals.{add-one}
 use native.Mathlib.Omega.{arith}
 use lib.Dec.{eqb, ltb}
-use lib.ListN.{length, get_or, set, take, length-set}
-use lib.Seq.{sets, length-sets, get_or-set_same, get_or-set_other, take-suc, length-take-le}
+use lib.ListN.{length, get_or, set, length-set}
+use lib.Seq.{sets, sets-eq, length-sets, drop-drop, get_or-set_same, get_or-set_other}
+use borrow.Rule.Slice.PartMut.{put_mid}
+use Rattle.std.proofs.Common.{append_assoc}
 use borrow.Author.Tests.{ltb-true}
 use Rattle.definition.specs.Base.{branch, Tab, put}
 use Rattle.definition.proofs.Base.{put_same, put_other, put_ind, put_back}
@@ -122,16 +123,6 @@ each_kept f w l i c v p q e = each_set f w l i c v p q ∙ ap (put (each f w l) 
 
 -- ---- a run of stores
 
--- one more word of a run
-pub sets_more : (l : List ℕ) (i : ℕ) (ws : List ℕ) (k : ℕ) → k < length ws → set (sets l i (take k ws)) (i + k) (get_or ws k 0) ≡ sets l i (take (k + 1) ws)
-sets_more l i ws k h =
-    ap (λ (n : ℕ). set (sets l i (take k ws)) (i + n) (get_or ws k 0)) (sym (length-take-le k ws (omega arith)))
-    ∙ sym (last l i (take k ws) (get_or ws k 0)) ∙ ap (sets l i) (sym (take-suc ws k 0 h) ∙ ap (λ (n : ℕ). take n ws) (sym (add-one k)))
-  where
-    last : (l : List ℕ) (i : ℕ) (vs : List ℕ) (v : ℕ) → sets l i (vs ++ v ∷ []) ≡ set (sets l i vs) (i + length vs) v
-    last l i [] v = ap (λ (n : ℕ). set l n v) (sym (add-zero i))
-    last l i (a ∷ vs) v = last (set l i a) (suc i) vs v ∙ ap (λ (n : ℕ). set (sets (set l i a) (suc i) vs) n v) (omega arith)
-
 -- a run of stores from row i, column c on, within the row
 pub cell-sets : (w : ℕ) (l : List ℕ) (i c : ℕ) (vs : List ℕ) → c + length vs ≤ w → i * w + w ≤ length l
     → cell w (sets l (i * w + c) vs) ≡ put (cell w l) i (puts (cell w l i) c vs)
@@ -149,6 +140,12 @@ cell-sets w l i c (v ∷ vs) p q =
 record_back : (row : Tab ℕ) (r : Record) → record_at (puts row 2 (record_words r)) ≡ r
 unfolding record_at record_words put branch
 record_back row r = refl
+
+-- a record is stored where its words are copied into its row, behind the shared ones
+pub copied : (l : List ℕ) (p k : ℕ) (ws : List ℕ) (r : Record) → ws ≡ record_words r → k ≡ 19 → p * 21 + 21 ≤ length l
+    → put_mid (p * 21 + 2) k l ws ≡ stored_record l p r
+unfolding stored_record participant_words record_words
+copied l p k ws r e n h = sym (sets-eq (record_words r) l (p * 21 + 2) (omega arith) ∙ rw (e, n, drop-drop, append_assoc))
 
 module _ (l : List ℕ) (p : ℕ) (r : Record) where
   -- a store changes no length

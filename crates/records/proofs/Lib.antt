@@ -1,3 +1,5 @@
--- What belongs to no one function: which places' pointers fit a word, and what a store does to a table of rows. Crates above cite both.
+-- What belongs to no one function: which places' pointers fit a word, what a store does to a table of rows, and what `==`
+-- answers at two codes. Crates above cite all three.
 pub mod Fits
 pub mod Laws
+pub mod Same

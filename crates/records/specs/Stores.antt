@@ -1,7 +1,6 @@
 -- A participant's record in a lent list: the list after it was stored, and what a place needs so that it can be. Assumes nothing.
-use Rattle.std.specs.Prelude.{List, ℕ, ◌+◌, ◌*◌, ◌^◌, ◌<◌, get_or}
+use Rattle.std.specs.Prelude.{List, ℕ, ◌+◌, ◌*◌, ◌^◌, ◌<◌}
 use Rattle.std.proofs.lemmas.List.Edits.{sets}
-use Rattle.definition.specs.Codec.{columns}
 use Rattle.definition.specs.Layout.{Lent, participant_words, record_words}
 use Rattle.definition.specs.declared.Code.{Code}
 use Rattle.definition.specs.declared.Record.{Record}
@@ -24,14 +23,3 @@ stored_lent l p r = record {
   held = l.held;
   queued = l.queued;
 }
-
--- the record in the row that starts at a word of the list: `record_at` of the definition, with each word where it stands
-abbrev pub record_from : List ℕ → ℕ → Record
-record_from l at =
-    let w : ℕ → ℕ = λ c. get_or l (at + c) 0 in
-    record {
-      counts = record { guards = w 2; handles = w 3; pins = w 4 };
-      held = w 5;
-      share = w 6;
-      code = columns (w 7) (w 8) (w 9) (w 10) (w 11) (w 12) (w 13) (w 14) (w 15) (w 16) (w 17) (w 18) (w 19) (w 20);
-    }

@@ -3,49 +3,39 @@
 use mathlib.Core.Path.{◌≡◌, refl, ap, sym, ◌∙◌}
 use mathlib.Core.Bool.{Bool, true, false}
 use mathlib.Core.List.{List, [], ◌∷◌, ◌++◌, append_assoc, append-nil}
-use mathlib.Core.Option.{none, some}
+use Rattle.std.specs.Prelude.{None, Some, option_map}
 use Prim.Native.Nat.{ℕ, zero, suc, ◌+◌, ◌*◌, ◌/◌, ◌%◌, ◌^◌, ◌≤◌, ◌<◌}
 use native.Mathlib.Omega.{arith}
 use native.Mathlib.Nat.{add-zero, add_assoc, pow-suc, div-lt_iff_lt-mul}
 use native.Mathlib.Numerals.{add-one}
-use lib.Dec.{ltb, leb, lit<}
+use lib.Dec.{ltb, lit<}
 use lib.ListN.{length, get_or, take, drop, set, length-append, length-take, length-drop, take-append-drop}
-use lib.Seq.{append_snoc, take-suc, set_split, take_at, drop_at, drop-drop, length-take-le}
-use borrow.Author.Tests.{lt-ltb, le-ltb, ltb-true, ltb-false, eqb-true}
+use lib.Seq.{append_snoc, take-suc, set_split, take_at, drop_at, drop-drop}
+use borrow.Rule.Slice.PartMut.{put_mid}
+use borrow.Author.Tests.{lt-ltb, le-ltb, ltb-true, ltb-false}
 use Rattle.definition.specs.Base.{branch}
 use Rattle.definition.specs.Runs.{Event}
 use Rattle.definition.specs.Schedule.{whole, action_of, token_in, digits, decimal, answer_text, freed_text, line}
 use Rattle.definition.specs.Step.{Out}
 use Rattle.definition.specs.declared.Answer.{Answer}
-use Rattle.definition.proofs.Base.{branch_ind, both}
-use Rattle.script.specs.Script.{Action, action_for, event_for, action_in, written, Puts, line_of}
+use Rattle.definition.proofs.Base.{branch_ind}
+use Rattle.script.specs.Script.{action_for, event_for, action_in, written, Puts, line_of}
 
 -- an event is the event of its action
-pub event_back : (e : Event) → event_for (action_for e) ≡ some e
+pub event_back : (e : Event) → event_for (action_for e) ≡ e
 unfolding action_for event_for
 event_back (Event.steps p marked) = refl
 event_back Event.registers = refl
 event_back (Event.calls p c) = refl
 
 -- what a record says, as an event: none exactly where it is not whole
-pub event_in : (b : List ℕ) → event_for (action_in b) ≡ branch (whole b) (some (action_of (get_or b 0 0) (get_or b 1 0) (token_in b))) none
-unfolding action_in branch event_for
+pub event_in : (b : List ℕ) → option_map event_for (action_in b) ≡ branch (whole b) (Some (action_of (get_or b 0 0) (get_or b 1 0) (token_in b))) None
+unfolding action_in branch
 event_in b = go (whole b) (action_of (get_or b 0 0) (get_or b 1 0) (token_in b))
   where
-    go : (w : Bool) (e : Event) → event_for (branch w (action_for e) Action.Broken) ≡ branch w (some e) none
-    go true e = event_back e
+    go : (w : Bool) (e : Event) → option_map event_for (branch w (Some (action_for e)) None) ≡ branch w (Some e) None
+    go true e = ap Some (event_back e)
     go false e = refl
-
--- a whole record has 8 bytes and an action that is numbered
-pub whole_is : (b : List ℕ) → whole b ≡ true → (length b ≡ 8) × (leb (get_or b 0 0) 9 ≡ true)
-unfolding whole
-whole_is b h =
-    let five = (both _ _ h).0 in
-    let four = (both _ _ five).0 in
-    let three = (both _ _ four).0 in
-    let two = (both _ _ three).0 in
-    let one = both _ _ two in
-    (eqb-true _ _ one.0, one.1)
 
 -- a text put into bytes that have room for it leaves as many bytes
 module _ (b : List ℕ) (at : ℕ) where
@@ -73,22 +63,16 @@ module _ (b : List ℕ) (at : ℕ) where
       sym (drop-drop (length t) (at + length s) (p ++ r)) ∙ ap (drop (length t)) (drop_at p r (at + length s) lp) ∙ drop-drop (length t) (at + length s) b in
       rw (front, back, append_assoc (take at b) s t, length-append s t, ← add_assoc at (length s) (length t))
 
+-- a part of the bytes, with the text copied over it
+pub copied : (b : List ℕ) (at k : ℕ) (s t : List ℕ) → t ≡ s → k ≡ length s → put_mid at k b t ≡ written b at s
+unfolding written
+copied b at k s t e h =
+    rw (e, h) (sym (append_assoc (take at b) s (drop (length s) (drop at b))) ∙ ap (λ (r : List ℕ). take at b ++ s ++ r) (drop-drop (length s) at b))
+
 -- a text put after a text is put as one
 pub then : (b : List ℕ) (at : ℕ) (s t : List ℕ) {b' b'' : List ℕ} {p q : ℕ}
     → Puts b at s b' p → Puts b' p t b'' q → at + length s ≤ length b → Puts b at (s ++ t) b'' q
 then b at s t x y h = (rw (y.0, x.0, x.1) (written_more b at s t h), rw (length-append s t) (omega (arith, x.1, y.1)))
-
--- one byte more of a text
-pub written_next : (b : List ℕ) (at : ℕ) (s : List ℕ) (i : ℕ) → at + length s ≤ length b → i < length s
-    → set (written b at (take i s)) (at + i) (get_or s i 0) ≡ written b at (take (i + 1) s)
-written_next b at s i h k =
-    let l : length (take i s) ≡ i = length-take-le i s (omega arith) in
-    let fits : at + length (take i s) ≤ length b = omega arith in
-    let room : at + i < length (written b at (take i s)) = rw (written-length b at (take i s) fits) (omega arith) in
-    written_byte (written b at (take i s)) (at + i) (get_or s i 0) room
-    ∙ ap (λ (n : ℕ). written (written b at (take i s)) (at + n) (get_or s i 0 ∷ [])) (sym l)
-    ∙ written_more b at (take i s) (get_or s i 0 ∷ []) fits
-    ∙ ap (written b at) (sym (take-suc s i 0 k) ∙ ap (λ (n : ℕ). take n s) (sym (add-one i)))
 
 -- a number of one digit, and one of more, from its last
 digits_short : (f n : ℕ) → n < 10 → digits (suc f) n ≡ (48 + n) ∷ []
@@ -159,10 +143,6 @@ freed_most (t ∷ l) = simp length-append (omega (arith, decimal_most t, freed_m
 pub line_most : (a : Answer) (l : List ℕ) → length (line_of a l) ≤ 29 + 22 * length l
 unfolding line_of
 line_most a l = simp length-append (omega (arith, answer_most a, freed_most l))
-
--- numbers from 0 on, one after another: what is not below k and not k is above it
-pub past : (k : ℕ) {a : ℕ} → k ≤ a → (a ≡ k → ⊥) → k + 1 ≤ a
-past k h ne = omega arith
 
 -- the line of what comes out of an event
 pub line_is : (o : Out) → line o ≡ line_of o.answer o.freed

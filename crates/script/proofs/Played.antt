@@ -22,7 +22,8 @@ use Rattle.definition.specs.declared.End.{End}
 use Rattle.definition.specs.declared.After.{After}
 use Rattle.definition.proofs.Base.{branch_ind}
 use Rattle.definition.proofs.Opens.{opens_none}
-use Rattle.script.specs.Script.{Action, action_for, action_in, freed_count}
+use Rattle.std.specs.Prelude.{Some, None}
+use Rattle.script.specs.Script.{action_for, action_in, freed_count}
 use Rattle.script.specs.Played.{keeping, acts, line_from, lines_on}
 use Rattle.script.proofs.Laws.{line_is}
 
@@ -81,7 +82,7 @@ module _ (l : Lent) (places : List ℕ) (fits : sized 32 128 l ≡ true) (room :
   unfolding lending within_limits branch max_participants max_nodes
   lending_back lent f = rw fits
 
-  acts_event : (e : Event) → acts 32 128 l places (action_for e) ≡ back l places (does 32 128 e tables)
+  acts_event : (e : Event) → acts 32 128 l places (Some (action_for e)) ≡ back l places (does 32 128 e tables)
   unfolding acts action_for does step_lent register_lent call_lent
   acts_event (Event.steps p marked) = rw (lending_back places (step 32 128 marked (length places) p), room)
   acts_event Event.registers = rw (lending_back [] (register 32 128)) (keeping-given l places _ _ (register_none tables))
@@ -92,8 +93,8 @@ module _ (l : Lent) (places : List ℕ) (fits : sized 32 128 l ≡ true) (room :
   unfolding action_in played acts given branch
   acts-played b = go (whole b) (action_of (get_or b 0 0) (get_or b 1 0) (token_in b)) (acts_event _)
     where
-      go : (w : Bool) (e : Event) → acts 32 128 l places (action_for e) ≡ back l places (does 32 128 e tables)
-          → acts 32 128 l places (branch w (action_for e) Action.Broken) ≡ back l places (branch w (does 32 128 e tables) (refused 13 tables))
+      go : (w : Bool) (e : Event) → acts 32 128 l places (Some (action_for e)) ≡ back l places (does 32 128 e tables)
+          → acts 32 128 l places (branch w (Some (action_for e)) None) ≡ back l places (branch w (does 32 128 e tables) (refused 13 tables))
       go true e same = same
       go false e same = refl
 

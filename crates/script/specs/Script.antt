@@ -1,7 +1,6 @@
 -- The schedule program's records and lines on lent bytes: an action of the code for each event of a run, and a text put into a list of
 -- bytes. What a record means and what a line says is the definition's (specs/Schedule of `definition`). Assumes nothing.
-use Rattle.std.specs.Prelude.{◌≡◌, List, [], ◌∷◌, ◌++◌, ℕ, ◌+◌, leb, length, get_or, take, drop}
-use Rattle.std.proofs.Math.Option.{Option, none, some}
+use Rattle.std.specs.Prelude.{◌≡◌, List, [], ◌∷◌, ◌++◌, ℕ, ◌+◌, leb, length, get_or, take, drop, Option, None, Some}
 use Rattle.definition.specs.Base.{branch}
 use Rattle.definition.specs.Runs.{Event}
 use Rattle.definition.specs.Schedule.{whole, action_of, token_in, answer_text, freed_text}
@@ -14,20 +13,19 @@ action_for (Event.steps p marked) = Action.Step p marked
 action_for Event.registers = Action.Register
 action_for (Event.calls p c) = Action.Call p c
 
--- and back: a broken record is no event
-unfoldable pub event_for : Action → Option Event
-event_for (Action.Step p marked) = some (Event.steps p marked)
-event_for Action.Register = some Event.registers
-event_for (Action.Call p c) = some (Event.calls p c)
-event_for Action.Broken = none
+-- and back
+unfoldable pub event_for : Action → Event
+event_for (Action.Step p marked) = Event.steps p marked
+event_for Action.Register = Event.registers
+event_for (Action.Call p c) = Event.calls p c
 
 -- the action that three numbers name; none is numbered above 9
-unfoldable pub named : (action participant token : ℕ) → Action
-named a p t = branch (leb a 9) (action_for (action_of a p t)) Action.Broken
+abbrev pub named : (action participant token : ℕ) → Option Action
+named a p t = branch (leb a 9) (Some (action_for (action_of a p t))) None
 
--- what a record says
-unfoldable pub action_in : List ℕ → Action
-action_in b = branch (whole b) (action_for (action_of (get_or b 0 0) (get_or b 1 0) (token_in b))) Action.Broken
+-- what a record says; a broken one says nothing
+unfoldable pub action_in : List ℕ → Option Action
+action_in b = branch (whole b) (Some (action_for (action_of (get_or b 0 0) (get_or b 1 0) (token_in b)))) None
 
 -- how many tokens an answer says were freed
 unfoldable pub freed_count : Answer → ℕ

@@ -6,70 +6,47 @@
 // lists of bytes: a record is whole or it is broken, and a text is put where the one before it ends.
 #![tactic(auto)]
 
-ghost use Rattle.std.specs.Prelude.{◌≡◌, ◌&&◌, [], ◌∷◌, ◌+◌, ◌*◌, ◌≤◌, ◌<◌, length, take};
-ghost use Rattle.definition.specs.Base.{branch};
-ghost use Rattle.definition.specs.Schedule.{token_in, whole, decimal, answer_text, freed_text};
+ghost use Rattle.std.specs.Prelude.{◌≡◌, [], ◌∷◌, ◌+◌, ◌*◌, ◌≤◌, ◌<◌, length};
+ghost use Rattle.definition.specs.Schedule.{decimal, answer_text, freed_text};
 ghost use Rattle.script.specs.Script.{named, action_in, freed_count, Puts, line_of};
 
 use definition::{Answer, Call};
 
-// What a record asks for: a step of a participant, marked or not, a registering, a call on a participant, or nothing, where the record is broken.
+// What a record asks for: a step of a participant, marked or not, a registering, or a call on a participant.
 #[derive(Clone, Copy)]
 pub enum Action {
     Step(u64, bool),
     Register,
     Call(u64, Call),
-    Broken,
 }
 
-// Returns what the bytes of a record ask for: all of them, so that a short record is broken.
-pub fn action_of(bytes: &[u8]) -> Action
+// The actions whose record says nothing else: a register has participant 0, and only a defer has a token.
+const REGISTER: u8 = 1;
+
+const DEFER: u8 = 7;
+
+// Returns what the bytes of a record ask for, or `None` where it is broken: it has not 8 bytes, a byte that should be zero is not, a token
+// stands where none is taken, a register has a participant, or there is no such action.
+#[tactic(auto, unfolding(crate::specs::Script::action_in, definition::specs::Base::branch, definition::specs::Schedule::token_in, definition::specs::Schedule::whole))]
+pub fn action_of(bytes: &[u8]) -> Option<Action>
     ensures { result ≡ action_in bytes.now }
 {
-    if is_whole(bytes) {
-        name(bytes[0], wide(bytes[1]), token_in(bytes))
-    } else {
-        Action::Broken
+    let [action, participant, 0, 0, a, b, c, d] = *bytes else {
+        return None;
+    };
+    let token = u32::from_le_bytes([a, b, c, d]);
+    if (token != 0 && action != DEFER) || (participant != 0 && action == REGISTER) {
+        return None;
     }
-}
-
-// Returns `true` if the record has 8 bytes that keep the rules: an action of 0 to 9, two zero bytes, a token for a defer only, and
-// participant 0 for a register.
-fn is_whole(bytes: &[u8]) -> bool
-    ensures { result ≡ whole bytes.now }
-{
-    if bytes.len() != 8 {
-        return false;
-    }
-    let action = bytes[0];
-    if action > 9 {
-        return false;
-    }
-    if bytes[2] != 0 {
-        return false;
-    }
-    if bytes[3] != 0 {
-        return false;
-    }
-    let token_rule = pick(action == 7, true, token_in(bytes) == 0);
-    let participant_rule = pick(action == 1, bytes[1] == 0, true);
-    both(token_rule, participant_rule)
-}
-
-// Returns the token of a record, whose lowest byte comes first.
-fn token_in(bytes: &[u8]) -> u64
-    requires { length bytes.now ≡ 8 }
-    ensures { result ≡ token_in bytes.now }
-{
-    let high = wide(bytes[6]) + 256 * wide(bytes[7]);
-    wide(bytes[4]) + 256 * (wide(bytes[5]) + 256 * high)
+    name(action, u64::from(participant), u64::from(token))
 }
 
 // Returns the action of that number, on that participant and with that token: document 01's nine, and 9, a marked step (document 02, No. 2).
-fn name(action: u8, participant: u64, token: u64) -> Action
+#[tactic(auto, unfolding(crate::specs::Script::action_for, definition::specs::Base::branch, definition::specs::Schedule::action_of))]
+fn name(action: u8, participant: u64, token: u64) -> Option<Action>
     ensures { result ≡ named action participant token }
 {
-    match action {
+    let named = match action {
         0 => Action::Step(participant, false),
         1 => Action::Register,
         2 => Action::Call(participant, Call::Acquire),
@@ -80,19 +57,20 @@ fn name(action: u8, participant: u64, token: u64) -> Action
         7 => Action::Call(participant, Call::Defer(token)),
         8 => Action::Call(participant, Call::Flush),
         9 => Action::Step(participant, true),
-        _ => Action::Broken,
-    }
+        _ => return None,
+    };
+    Some(named)
 }
 
-// Puts the line of an answer, with the first k of the freed tokens, at `at`, and returns the place after it. Every answer and every
-// token fits: `refused ` and 20 digits, ` +` and 20 digits for each token, and the line's end.
-pub fn put_line(out: &mut [u8], at: usize, answer: Answer, freed: &[u64], k: usize) -> usize
-    requires { (at + 29 + 22 * k ≤ length out.old) × (k ≤ length freed.now) }
-    ensures puts { Puts out.old at (line_of answer (take k freed.now)) out.new result }
-    ensures upper_bound { result ≤ at + 29 + 22 * k }
+// Puts the line of an answer, with the freed tokens, at `at`, and returns the place after it. Every answer and every token fits: `refused `
+// and 20 digits, ` +` and 20 digits for each token, and the line's end.
+pub fn put_line(out: &mut [u8], at: usize, answer: Answer, freed: &[u64]) -> usize
+    requires { at + 29 + 22 * length freed.now ≤ length out.old }
+    ensures puts { Puts out.old at (line_of answer freed.now) out.new result }
+    ensures upper_bound { result ≤ at + 29 + 22 * length freed.now }
 {
     let end = put_answer(out, at, answer);
-    let last = put_freed(out, end, freed, k);
+    let last = put_freed(out, end, freed);
     put_text(out, last, b"\n")
 }
 
@@ -114,16 +92,14 @@ fn put_answer(out: &mut [u8], at: usize, answer: Answer) -> usize
     }
 }
 
-// Puts ` +T` for each of the first k tokens.
-fn put_freed(out: &mut [u8], at: usize, freed: &[u64], k: usize) -> usize
-    requires { (at + 22 * k ≤ length out.old) × (k ≤ length freed.now) }
-    ensures { Puts out.old at (freed_text (take k freed.now)) out.new result }
+// Puts ` +T` for each token.
+fn put_freed(out: &mut [u8], at: usize, freed: &[u64]) -> usize
+    requires { at + 22 * length freed.now ≤ length out.old }
+    ensures { Puts out.old at (freed_text freed.now) out.new result }
 {
     let mut p = at;
-    let mut i: usize = 0;
-    while i < k {
-        p = put_token(out, p, freed[i]);
-        i += 1;
+    for token in freed {
+        p = put_token(out, p, *token);
     }
     p
 }
@@ -138,6 +114,7 @@ fn put_token(out: &mut [u8], at: usize, token: u64) -> usize
 }
 
 // Puts a number in decimal, and returns the place after it: what its tenth leaves, and then its last digit, so that no digit is moved.
+// By hand, and not `write!` into the slice: that answers with a `Result`, and a line that has room always fits.
 pub fn put_decimal(out: &mut [u8], at: usize, v: u64) -> usize
     requires { at + 20 ≤ length out.old }
     ensures { Puts out.old at (decimal v) out.new result }
@@ -155,11 +132,7 @@ fn put_text(out: &mut [u8], at: usize, text: &[u8]) -> usize
     requires { at + length text.now ≤ length out.old }
     ensures { Puts out.old at text.now out.new result }
 {
-    let mut i: usize = 0;
-    while i < text.len() {
-        out[at + i] = text[i];
-        i += 1;
-    }
+    out[at..at + text.len()].copy_from_slice(text);
     at + text.len()
 }
 
@@ -181,33 +154,12 @@ fn digit(d: u64) -> u8
 }
 
 // Returns the number of tokens that an answer says were freed.
+#[tactic(auto, unfolding(crate::specs::Script::freed_count))]
 pub fn freed_count(answer: Answer) -> u64
     ensures { result ≡ freed_count answer }
 {
     match answer {
-        Answer::Done(_, k) => k,
-        Answer::More(k) => k,
+        Answer::Done(_, k) | Answer::More(k) => k,
         Answer::Refused(_) => 0,
     }
-}
-
-// Returns the first where the test is true, else the second.
-fn pick(b: bool, x: bool, y: bool) -> bool
-    ensures { result ≡ branch b x y }
-{
-    if b { x } else { y }
-}
-
-// Returns `true` if both are.
-fn both(a: bool, b: bool) -> bool
-    ensures { result ≡ (a && b) }
-{
-    if a { b } else { false }
-}
-
-// Returns a byte as a number. What it is below is said too, for the sums that it stands in.
-fn wide(byte: u8) -> u64
-    ensures { (result ≡ byte) × (result < 256) }
-{
-    byte as u64
 }

@@ -30,7 +30,8 @@ use Rattle.settle.specs.Settle.{settled_globals, settled_nodes, settled_held, se
 unfoldable pub Fits : (N M p k : ℕ) → Work → Lent → Type 0
 Fits N M p k Work.Nothing l = Unit {0}
 Fits N M p k (Work.Put i) l = k < 64
-Fits N M p k (Work.PutThenFree i x) l = (k < 64) × ((x.0 < M) × (bag_in N M (bag_from l.nodes l.queued x.0).len (bag_from l.nodes l.queued x.0).deferreds ≡ true))
+Fits N M p k (Work.PutThenFree i x) l =
+    (k < 64) × ((x.0 < M) × (bag_in N M (bag_from l.nodes l.queued x.0).len (bag_from l.nodes l.queued x.0).deferreds ≡ true))
 Fits N M p k (Work.Seal x e) l = (k ≤ 64) × (x.0 < M)
 
 module _ (N M p k : ℕ) (l : Lent) (s : Sized N M l) (hp : p < N) (held : (record_at (cell participant_words l.participants p)).held ≡ k) where
@@ -107,7 +108,9 @@ module _ (N M p k : ℕ) (l : Lent) (s : Sized N M l) (hp : p < N) (held : (reco
         deferreds = moved (record_at (cell participant_words l.participants p)).held (cell max_objects l.held p) (bag_from l.nodes l.queued x).deferreds;
       })
   unfolding bag_from
-  sealed_bags x e hk hx = rw held (unfold bag_from in (bag_sealed l.nodes x e k (node_in_lem x hx) l.held l.queued p hk (let r = row_in in omega arith) (rw s.queued (omega arith))))
+  sealed_bags x e hk hx =
+      rw held
+      (unfold bag_from in (bag_sealed l.nodes x e k (node_in_lem x hx) l.held l.queued p hk (let r = row_in in omega arith) (rw s.queued (omega arith))))
 
   -- the popped bag freed behind the item
   freed-tables : (x v : ℕ) → k < 64 → x < M → bag_in N M (bag_from l.nodes l.queued x).len (bag_from l.nodes l.queued x).deferreds ≡ true
@@ -148,7 +151,8 @@ module _ (N M p k : ℕ) (l : Lent) (s : Sized N M l) (hp : p < N) (held : (reco
       let g = taken l.globals (global_words + bit_words N) x in
       let early : (j : ℕ) → j < global_words → get_or g j 0 ≡ get_or l.globals j 0 = early_mark l.globals (global_words + bit_words N) x false (omega arith) in
       λ j. record {
-        shared = (shared_same g (stamped l.nodes x e k) early (put (column node_words 0 l.nodes) x null) (next_sealed l.nodes x e k (node_in_lem x hx)) ∙ sealed_shared x) j;
+        shared = (shared_same g (stamped l.nodes x e k) early (put (column node_words 0 l.nodes) x null)
+            (next_sealed l.nodes x e k (node_in_lem x hx)) ∙ sealed_shared x) j;
         own = λ q. record_at (cell participant_words l.participants q);
         held = cell max_objects l.held;
         bag = sealed_bags x e hk hx j;

@@ -51,20 +51,17 @@ settled_lent N p k w l = record {
 }
 
 -- what the work touches is there, and a bag that an item goes into has room
-abbrev pub Settles : (N p k : ℕ) → Work → (globals nodes held queued freed : List ℕ) → Type 0
-Settles N p k Work.Nothing g n h q f = Unit {0}
-Settles N p k (Work.Put i) g n h q f = (k < 64) × ((p * 64 + k < length h) × (item_word i < 2 ^ 64))
-Settles N p k (Work.PutThenFree i x) g n h q f = ((k < 64) × ((p * 64 + k < length h) × (item_word i < 2 ^ 64)))
-    × (((x.0 * 3 + 3 ≤ length n) × (x.0 * 64 + bag_len n x.0 ≤ length q))
-    × ((bag_len n x.0 ≤ length f) × (have_bits N (length g) (bag_len n x.0) (words_at q (x.0 * 64)) ≡ true)))
-Settles N p k (Work.Seal x e) g n h q f = ((p * 64 + k ≤ length h) × ((x.0 * 3 + 3 ≤ length n) × (x.0 * 64 + k ≤ length q)))
-    × (global_words + bit_words N + x.0 / 64 < length g)
+abbrev pub Settles : (N p k : ℕ) → Work → Lent → (freed : List ℕ) → Type 0
+Settles N p k Work.Nothing l f = Unit {0}
+Settles N p k (Work.Put i) l f = (k < 64) × ((p * 64 + k < length l.held) × (item_word i < 2 ^ 64))
+Settles N p k (Work.PutThenFree i x) l f = ((k < 64) × ((p * 64 + k < length l.held) × (item_word i < 2 ^ 64)))
+    × (((x.0 * 3 + 3 ≤ length l.nodes) × (x.0 * 64 + bag_len l.nodes x.0 ≤ length l.queued))
+    × ((bag_len l.nodes x.0 ≤ length f) × (have_bits N (length l.globals) (bag_len l.nodes x.0) (words_at l.queued (x.0 * 64)) ≡ true)))
+Settles N p k (Work.Seal x e) l f = ((p * 64 + k ≤ length l.held) × ((x.0 * 3 + 3 ≤ length l.nodes) × (x.0 * 64 + k ≤ length l.queued)))
+    × (global_words + bit_words N + x.0 / 64 < length l.globals)
 
 -- the work was done: the lists before it, the number of tokens, and the lists after it
-pub record Settled (N p k : ℕ) (w : Work) (g n h q f : List ℕ) (r : ℕ) (g' n' h' q' f' : List ℕ) : Type 0 where
-  pub number : r ≡ length (settled_tokens w n q)
-  pub globals : g' ≡ settled_globals N w g n q
-  pub nodes : n' ≡ settled_nodes k w n
-  pub held : h' ≡ settled_held p k w h
-  pub queued : q' ≡ settled_queued p k w h q
-  pub freed : f' ≡ filled (settled_tokens w n q) f
+pub record Settled (N p k : ℕ) (w : Work) (l : Lent) (f : List ℕ) (r : ℕ) (l' : Lent) (f' : List ℕ) : Type 0 where
+  pub number : r ≡ length (settled_tokens w l.nodes l.queued)
+  pub lent : l' ≡ settled_lent N p k w l
+  pub freed : f' ≡ filled (settled_tokens w l.nodes l.queued) f

@@ -92,6 +92,13 @@ pub given_more : (l₀ l : List ℕ) (at from k : ℕ) → l ≡ given_from l₀
 unfolding given_from
 given_more l₀ l at from k e = rw (add-one k, e)
 
+-- and that by index
+pub given_next : (l₀ l : List ℕ) (at from i : ℕ) → from ≤ i → l ≡ given_from l₀ at from (i - from) → given l at i ≡ given_from l₀ at from (i + 1 - from)
+given_next l₀ l at from i h e =
+    let here : i ≡ from + (i - from) = omega arith in
+    let after : i - from + 1 ≡ i + 1 - from = omega arith in
+    ap (given l at) here ∙ given_more l₀ l at from (i - from) e ∙ ap (given_from l₀ at from) after
+
 -- the list is as long
 pub length-given : (l : List ℕ) (at from k : ℕ) → length (given_from l at from k) ≡ length l
 unfolding given_from
@@ -232,7 +239,8 @@ module _ (N M : ℕ) (one : 1 ≤ M) where
   nodes =
       nodes-given N M slotted 1 (rw length-slotted (omega arith))
       (nodes-keep N M (emptied size) 0 N (omega arith)
-      ∙ bits_none (bit_words M) (words_at (emptied size) (5 + bit_words N)) (λ j _. emptied-zero size (5 + bit_words N + j) (λ e. omega arith) (λ e. omega arith)))
+      ∙ bits_none (bit_words M) (words_at (emptied size) (5 + bit_words N))
+      (λ j _. emptied-zero size (5 + bit_words N + j) (λ e. omega arith) (λ e. omega arith)))
       (M - 1) (omega arith)
       ∙ fun_ext (λ i. let e : 1 + (M - 1) ≡ M = omega arith in rw e)
 

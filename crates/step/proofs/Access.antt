@@ -70,7 +70,7 @@ read_in N M s h (Word.NodeNext k) i =
 -- ---- the access
 
 -- a word within the tables is in the lists
-word_in_lem : (N M : ℕ) (l : Lent) → Sized N M l → (w : Word) → WordIn N M w → word_in w l.globals l.participants l.nodes
+word_in_lem : (N M : ℕ) (l : Lent) → Sized N M l → (w : Word) → WordIn N M w → word_in w l
 unfolding WordIn
 word_in_lem N M l s Word.GlobalEpoch i = rw s.globals (omega arith)
 word_in_lem N M l s Word.ListHead i = rw s.globals (omega arith)
@@ -80,7 +80,7 @@ word_in_lem N M l s Word.QueueHead i = rw s.globals (omega arith)
 word_in_lem N M l s Word.QueueTail i = rw s.globals (omega arith)
 word_in_lem N M l s (Word.NodeNext k) i = rw s.nodes (omega arith)
 
-pub ask_in : (N M : ℕ) (l : Lent) → Sized N M l → (ask : Ask) → AskIn N M ask → word_in (named ask) l.globals l.participants l.nodes
+pub ask_in : (N M : ℕ) (l : Lent) → Sized N M l → (ask : Ask) → AskIn N M ask → word_in (named ask) l
 unfolding AskIn
 ask_in N M l s (Ask.Load w) i = word_in_lem N M l s w i
 ask_in N M l s (Ask.Store w v) i = word_in_lem N M l s w i

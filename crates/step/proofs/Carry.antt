@@ -1,6 +1,6 @@
 -- What follows an access or a call, carried out on lent lists: `follow` may be called, and what it leaves is the definition's `follow` on the
 -- tables that the lists hold. Said once, for a step and for a call. Assumes nothing.
-use mathlib.Core.Path.{◌≡◌, ap, sym, ◌∙◌}
+use mathlib.Core.Path.{◌≡◌, ap, sym, subst, ◌∙◌}
 use mathlib.Core.Bool.{true}
 use mathlib.Core.List.{List}
 use Prim.Native.Nat.{ℕ, ◌+◌, ◌-◌, ◌^◌, ◌≤◌, ◌<◌}
@@ -9,7 +9,7 @@ use lib.ListN.{length, get_or}
 use Rattle.definition.specs.Bags.{item_word}
 use Rattle.definition.specs.Calls.{max_token}
 use Rattle.definition.specs.Tables.{Tables}
-use Rattle.definition.specs.Layout.{Lent, lent, cell, global_words, participant_words, record_at, bag_from, slot_bits, node_bits, tables_of, lent_of}
+use Rattle.definition.specs.Layout.{Lent, cell, global_words, participant_words, record_at, bag_from, slot_bits, node_bits, tables_of, lent_of}
 use Rattle.definition.specs.Ranges.{bit_words, bag_in}
 use Rattle.definition.specs.Step.{follow, answer_of}
 use Rattle.definition.specs.declared.Item.{Item}
@@ -71,7 +71,7 @@ item_fits N M n m (Item.Node x) h = omega arith
 item_fits N M n m (Item.Slot x) h = omega arith
 
 work_settles : (N M p k : ℕ) (l : Lent) (f : List ℕ) → N ≤ 4096 → M ≤ 4096 → Sized N M l → p < N → 64 ≤ length f → (w : Work) → WorkIn N M w → Fits N M p k w l
-    → Settles N p k w l.globals l.nodes l.held l.queued f
+    → Settles N p k w l f
 unfolding WorkIn Fits global_words
 work_settles N M p k l f n m s hp places Work.Nothing i fit = tt
 work_settles N M p k l f n m s hp places (Work.Put item) i fit = (fit, (rw s.held (omega arith), item_fits N M n m item i))
@@ -80,7 +80,10 @@ work_settles N M p k l f n m s hp places (Work.PutThenFree item x) i fit =
     let few = bag-small N M l.nodes l.queued x.0 fit.1.1 in
     let inside : x.0 < M = fit.1.0 in (
       (room, (rw s.held (omega arith), item_fits N M n m item i.0)),
-      ((rw s.nodes (omega arith), rw s.queued (omega (arith, few))), (omega (arith, few), bag-has-bits N M l.nodes l.queued x.0 fit.1.1 (length l.globals) (rw s.globals (omega arith)))),
+      (
+        (rw s.nodes (omega arith), rw s.queued (omega (arith, few))),
+        (omega (arith, few), bag-has-bits N M l.nodes l.queued x.0 fit.1.1 (length l.globals) (rw s.globals (omega arith))),
+      ),
     )
 work_settles N M p k l f n m s hp places (Work.Seal x e) i fit =
     let small : k ≤ 64 = fit.0 in
@@ -118,8 +121,7 @@ module _ (N M p : ℕ) (l : Lent) (o : Participant) (a : After) (c : Carries N M
       record { long = omega (arith, long); covers = rw total c.covers; fits = rw total c.total }
 
   -- all that `follow` asks
-  pub may_carry : (f : List ℕ) → 64 ≤ length f
-      → Follows N p o.held o.share a l.globals l.participants l.nodes l.held l.queued f
+  pub may_carry : (f : List ℕ) → 64 ≤ length f → Follows N p o.held o.share a l f
   may_carry f places = record {
     settles = work_settles N M p o.held l f c.few.0 c.few.1 c.size c.below places a.work c.work_in fits;
     aside = aside;
@@ -149,12 +151,11 @@ module _ (N M p : ℕ) (l : Lent) (o : Participant) (a : After) (c : Carries N M
   carried-answer r h = h ∙ ap (λ (ts : List ℕ). answer_of a.end (length ts)) carried-tokens
 
   -- what `follow` leaves is the definition's
-  pub carried-leaves : (f : List ℕ) (r : Answer) (g' ps' n' h' q' f' : List ℕ)
-      → Followed N p o.held o.share a l.globals l.participants l.nodes l.held l.queued f r g' ps' n' h' q' f'
-      → ((j : ℕ) → get_or g' j 0 < 2 ^ 64) → Leaves N M (follow p a (tables_of N M l)) f r (lent g' ps' n' h' q') f'
-  carried-leaves f r g' ps' n' h' q' f' w small = record {
+  pub carried-leaves : (f : List ℕ) (r : Answer) (l' : Lent) (f' : List ℕ) → Followed N p o.held o.share a l f r l' f'
+      → Leaves N M (follow p a (tables_of N M l)) f r l' f'
+  carried-leaves f r l' f' w = record {
     answer = carried-answer r w.answer;
-    lent = (λ i. lent (w.globals i) (w.participants i) (w.nodes i) (w.held i) (w.queued i))
-        ∙ lists_are N M carried (follow p a (tables_of N M l)).tables carried-sized carried-tables (λ j. rw (← w.globals) (small j));
+    lent = w.lent ∙ lists_are N M carried (follow p a (tables_of N M l)).tables carried-sized carried-tables
+        (λ j. subst (λ (l : Lent). get_or l.globals j 0 < 2 ^ 64) w.lent (w.words j));
     freed = w.freed ∙ ap (λ (ts : List ℕ). filled ts f) carried-tokens;
   }

@@ -13,7 +13,7 @@ use Rattle.definition.specs.Bags.{SealedBag}
 use Rattle.definition.specs.Links.{index, node_at}
 use Rattle.definition.specs.Codec.{participant_of}
 use Rattle.definition.specs.Tables.{Tables, with_shared}
-use Rattle.definition.specs.Layout.{Lent, cell, global_words, participant_words, record_at, shared_from, bag_from, bits, node_bits, tables_of}
+use Rattle.definition.specs.Layout.{Lent, cell, global_words, participant_words, record_at, bag_from, bits, node_bits, tables_of}
 use Rattle.definition.specs.Ranges.{bit_words, bag_in, place_in}
 use Rattle.definition.specs.Rule.{Rule, asks, follows, sees, leaves, fails, missed}
 use Rattle.definition.specs.Internal.{rule}
@@ -36,8 +36,9 @@ use Rattle.bags.specs.Bags.{bag_seal}
 use Rattle.bags.proofs.Nodes.{bag-epoch}
 use Rattle.internal.specs.Fits.{PlaceFits}
 use Rattle.internal.proofs.Laws.{place-fits, one_seal_at}
-use Rattle.words.specs.Words.{named, word_in, left_lent, seen_by}
-use Rattle.words.proofs.Laws.{length-left-globals, length-left-participants, length-left-nodes, kept-globals, kept_records, kept-bags, left-tables, comes_to, comes_in}
+use Rattle.words.specs.Words.{shared_of, named, word_in, left_lent, seen_by}
+use Rattle.words.proofs.Laws.{length-left-globals, length-left-participants, length-left-nodes, kept-globals, kept_records, kept-bags}
+use Rattle.words.proofs.Laws.{left-tables, comes_to, comes_in}
 use Rattle.ranges.specs.Sound.{Sound}
 use Rattle.ranges.proofs.Laws.{limits-small}
 use Rattle.ranges.proofs.Facts.{Facts, facts, record_facts, record-place, bag-len-small}
@@ -83,7 +84,7 @@ module _ (N M p : ℕ) (l : Lent) (s : Sound N M l) (hp : p < N) (present : miss
   ask-fact : AskIn N M ask
   ask-fact = asks_in N M p spare sealed own own.place hp place-fact
 
-  pub asked_in : word_in (named ask) l.globals l.participants l.nodes
+  pub asked_in : word_in (named ask) l
   asked_in = ask_in N M l size ask ask-fact
 
   -- a node that is taken is one of M; where none is taken any node serves
@@ -126,12 +127,13 @@ module _ (N M p : ℕ) (l : Lent) (s : Sound N M l) (hp : p < N) (present : miss
     abbrev pub left : Lent
     left = left_lent effect l
 
-    effect_in : word_in (named effect) l.globals l.participants l.nodes
-    effect_in = comes_in marked ask l.globals l.participants l.nodes asked_in
+    effect_in : word_in (named effect) l
+    effect_in = comes_in marked ask l asked_in
 
     work_in : WorkIn N M after.work
     unfolding AfterIn
-    work_in = with_spare (λ r. AfterIn N M (follows r (seen_by marked (asks r) tables.shared))) (λ x lt. follows_in N M p x sealed own own.place _ lt place-fact)
+    work_in = with_spare (λ r. AfterIn N M (follows r (seen_by marked (asks r) tables.shared)))
+        (λ x lt. follows_in N M p x sealed own own.place _ lt place-fact)
 
     place-after : PlaceIn N M after.participant.place
     unfolding PlacedIn
@@ -152,16 +154,16 @@ module _ (N M p : ℕ) (l : Lent) (s : Sound N M l) (hp : p < N) (present : miss
     -- the lists after the access are as long as they were
     left-sized : Sized N M left
     left-sized = record {
-      globals = length-left-globals effect l.globals l.participants l.nodes effect_in ∙ size.globals;
-      participants = length-left-participants effect l.globals l.participants l.nodes effect_in ∙ size.participants;
-      nodes = length-left-nodes effect l.globals l.participants l.nodes effect_in ∙ size.nodes;
+      globals = length-left-globals effect l effect_in ∙ size.globals;
+      participants = length-left-participants effect l effect_in ∙ size.participants;
+      nodes = length-left-nodes effect l effect_in ∙ size.nodes;
       held = size.held;
       queued = size.queued;
     }
 
     -- the access leaves the participant's record as it was
     own_kept : record_at (cell participant_words left.participants p) ≡ record_at (cell participant_words l.participants p)
-    own_kept = ap (λ (f : Tab Record). f p) (kept_records effect l.globals l.participants l.nodes effect_in)
+    own_kept = ap (λ (f : Tab Record). f p) (kept_records effect l effect_in)
 
     held-left : (record_at (cell participant_words left.participants p)).held ≡ own.held
     unfolding tables_of participant_of
@@ -173,7 +175,7 @@ module _ (N M p : ℕ) (l : Lent) (s : Sound N M l) (hp : p < N) (present : miss
 
     -- and the set-aside total
     total_left : get_or left.globals 4 0 ≡ get_or l.globals 4 0
-    total_left = kept-globals effect l.globals l.participants l.nodes effect_in 4 (omega arith)
+    total_left = kept-globals effect l effect_in 4 (omega arith)
 
     -- what follows may be carried out
     pub carries : Carries N M p left own after
@@ -183,7 +185,7 @@ module _ (N M p : ℕ) (l : Lent) (s : Sound N M l) (hp : p < N) (present : miss
       below = hp;
       held_is = held-left;
       share_is = share_left;
-      freed = freed_in N M left after.work work_in (λ x lt. rw (kept-bags effect l.globals l.participants l.nodes effect_in l.queued) (bags_known x lt));
+      freed = freed_in N M left after.work work_in (λ x lt. rw (kept-bags effect l effect_in l.queued) (bags_known x lt));
       work_in = work_in;
       place_in_lem = place-after;
       room = room_after;
@@ -228,18 +230,19 @@ module _ (N M p : ℕ) (l : Lent) (s : Sound N M l) (hp : p < N) (present : miss
     unfolding tables_of node_at
     seal_is marked seen seal el =
         el ∙ sym (bag-epoch (left marked).nodes l.queued (index seen.value))
-        ∙ ap (λ (b : Tab SealedBag). (b (index seen.value)).epoch) (kept-bags (effect marked) l.globals l.participants l.nodes (effect_in marked) l.queued)
+        ∙ ap (λ (b : Tab SealedBag). (b (index seen.value)).epoch) (kept-bags (effect marked) l (effect_in marked) l.queued)
 
-    free_is : (at k free : ℕ) → at ≡ global_words + bit_words N → k ≡ bit_words M → free ≡ least M (bits k (words_at l.globals at)) → free ≡ least M tables.node_free
+    free_is : (at k free : ℕ) → at ≡ global_words + bit_words N → k ≡ bit_words M → free ≡ least M (bits k (words_at l.globals at))
+        → free ≡ least M tables.node_free
     unfolding tables_of node_bits
     free_is at k free ea ek ef = ef ∙ rw (ea, ek) refl
 
-    seen_is : (marked : Bool) (seen : Seen) → seen ≡ seen_by marked ask (shared_from l.globals l.participants l.nodes) → seen ≡ seen_by marked ask tables.shared
+    seen_is : (marked : Bool) (seen : Seen) → seen ≡ seen_by marked ask (shared_of l) → seen ≡ seen_by marked ask tables.shared
     unfolding tables_of
     seen_is marked seen es = es
 
     pub after_is : (marked : Bool) (at k free : ℕ) (seen : Seen) (seal : ℕ) (a : After) → at ≡ global_words + bit_words N → k ≡ bit_words M
-        → free ≡ least M (bits k (words_at l.globals at)) → seen ≡ seen_by marked ask (shared_from l.globals l.participants l.nodes)
+        → free ≡ least M (bits k (words_at l.globals at)) → seen ≡ seen_by marked ask (shared_of l)
         → seal ≡ bag_seal (left marked).nodes (index seen.value) → a ≡ follows (rule (slot p) (node free) (λ n. seal) o o.place) seen → a ≡ after marked
     after_is marked at k free seen seal a ea ek ef es el e =
         e ∙ rw (own_loaded, free_is at k free ea ek ef, seal_is marked seen seal el) (sym (one_seal_at (slot p) spare sealed own own.place seen))

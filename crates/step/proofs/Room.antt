@@ -90,7 +90,8 @@ module _ (k : ℕ) where
 
   defer_room : (d : Deferring) (o : Participant) → o.held ≡ k → Roomy k (defer d o)
   unfolding defer max_objects
-  defer_room d o e = branch_ind (Roomy k) (ltb o.held 64) (λ t. placed_room d _ (let small : o.held < 64 = ltb-true o.held 64 t in omega arith)) (λ _. on_room _ o)
+  defer_room d o e = branch_ind (Roomy k) (ltb o.held 64)
+      (λ t. placed_room d _ (let small : o.held < 64 = ltb-true o.held 64 t in omega arith)) (λ _. on_room _ o)
 
   pushed_room : (f : Then) (o : Participant) → o.held ≡ k → Roomy k (pushed f o)
   unfolding pushed

@@ -1,20 +1,35 @@
-// Reading blocks full and writing numbers, for the programs, at any reader and any writer.
+// Reading input block by block and writing numbers, for the programs, at any reader and any writer.
 //
 // What comes from the system and goes to it is outside every promise; where a reader or a writer says which bytes it has, as one over
 // memory does, the promises here say which of them move.
 #![tactic(auto)]
 
-ghost use Rattle.std.specs.Prelude.{◌≡◌, ◌<◌, length, replicate, take, decimal, IfOk, OnOk};
+ghost use Rattle.std.specs.Prelude.{◌≡◌, ◌<◌, length, take, decimal, IfOk, OnOk};
 ghost use Rattle.std.specs.Io.KnownBytes.{Consumes, IsAtEnd, Appends};
+ghost use Rattle.stream.specs.Blocks.{IsGivenTo};
 ghost use Rattle.stream.specs.Counts.{IsPrefixLen};
 
 use std::io::{self, Read, Write};
 
-// Returns 65,536 zeros, to read a block into or to put lines into.
-pub fn large_buffer() -> [u8; 65536]
-    ensures { result ≡ replicate 65536 0 }
+// Gives what is left of a reader's input to `f`, block by block: each is as long as `block`, but for the last, which is shorter. Ends after
+// that, or after more blocks than any run reads, since a proved loop has to end and nothing says that an input does. Fails where a read
+// or `f` does.
+pub fn for_each_block<R: Read, F: FnMut(&[u8]) -> io::Result<()>>(
+    reader: &mut R,
+    block: &mut [u8],
+    mut f: F,
+) -> io::Result<()>
+    requires { F.IsAlwaysCallable f }
+    ensures { IfOk result (λ _. IsGivenTo F.FnMut f (length block.old) (R.remaining reader.old) (R.remaining reader.new)) }
 {
-    [0u8; 65536]
+    for _ in 0..u64::MAX {
+        let n = read_full(reader, block)?;
+        f(&block[..n])?;
+        if n < block.len() {
+            return Ok(());
+        }
+    }
+    Ok(())
 }
 
 // Reads until `buf` is full or the input ends, and returns how many bytes it put at the start of `buf`: fewer than `buf` has only where the
@@ -66,6 +81,45 @@ mod tests {
         assert_eq!(rt; &buf[..2], b"gh".as_slice());
         assert_eq!(rt; read_full(&mut reader, &mut buf)?, 0);
         Ok(())
+    }
+
+    #[test]
+    fn gives_the_blocks_in_order(rt: HostRuntime) -> io::Result<()> {
+        let mut reader = (&b"abcd"[..]).chain(&b"efgh"[..]);
+        let mut block = [0u8; 3];
+        let mut text = Vec::new(rt.alloc());
+        for_each_block(&mut reader, &mut block, |bytes| {
+            text.write_all(bytes)?;
+            text.write_all(b"|")
+        })?;
+        assert_eq!(rt; text.as_slice(), b"abc|def|gh|".as_slice());
+        Ok(())
+    }
+
+    #[test]
+    fn gives_an_empty_block_last(rt: HostRuntime) -> io::Result<()> {
+        let mut reader = &b"abcdef"[..];
+        let mut block = [0u8; 3];
+        let mut text = Vec::new(rt.alloc());
+        for_each_block(&mut reader, &mut block, |bytes| {
+            text.write_all(bytes)?;
+            text.write_all(b"|")
+        })?;
+        assert_eq!(rt; text.as_slice(), b"abc|def||".as_slice());
+        Ok(())
+    }
+
+    #[test]
+    fn stops_where_a_block_fails(rt: HostRuntime) {
+        let mut reader = &b"abcdef"[..];
+        let mut block = [0u8; 3];
+        let mut calls = 0u8;
+        let r = for_each_block(&mut reader, &mut block, |_| {
+            calls = calls.saturating_add(1);
+            Err(io::Error::from(ErrorKind::Other))
+        });
+        assert!(rt; r.is_err());
+        assert_eq!(rt; calls, 1);
     }
 
     #[test]

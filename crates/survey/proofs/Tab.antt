@@ -1,24 +1,16 @@
--- A list that is filled from the front by f 0, f 1, ..: after k stores it is `tabulate f k ++ drop k ys`. And what a loop's test says. Assumes nothing.
+-- A list that is filled from the front by f 0, f 1, ..: after k stores it is `tabulate f k ++ drop k ys`. Assumes nothing.
 use mathlib.Core.Path.{◌≡◌, refl, sym, ap, subst, ◌∙◌}
 use mathlib.Core.Bool.{Bool, true, false}
 use mathlib.Core.List.{List, [], ◌∷◌, ◌++◌, append_assoc}
-use Prim.Native.Nat.{ℕ, zero, suc, ◌+◌, ◌-◌, ◌<◌, ◌≤◌}
+use Prim.Native.Nat.{ℕ, zero, suc, ◌+◌, ◌<◌, ◌≤◌}
 use native.Mathlib.Nat.{not-suc-le-zero}
 use native.Mathlib.Omega.{arith}
 use borrow.Author.Tests.{ltb-true, ltb-false}
-use lib.Dec.{T, ltb}
-use lib.ListN.{length, set, drop, get_or, length-append, length-drop, get_or-append}
+use lib.Dec.{ltb}
+use lib.ListN.{length, set, drop, get_or, length-append, get_or-append}
 use lib.Seq.{drop-cons, set_at, get_or-append_seam}
 use Rattle.definition.specs.Base.{listed}
 use Rattle.survey.specs.Surveys.{tabulate}
-
-pub holds : (t : Bool) → T t → t ≡ true
-holds true _ = refl
-holds false a = absurd a
-
-pub fails : (t : Bool) → (T t → ⊥) → t ≡ false
-fails true f = absurd (f tt)
-fails false _ = refl
 
 module _ {A : Type 0} (f : ℕ → A) where
   -- the table's length; with none stored the list is as it was; a store of f k at k is one more stored
@@ -37,20 +29,15 @@ module _ {A : Type 0} (f : ℕ → A) where
   pub tab_more : (ys : List A) (k : ℕ) → k < length ys → set (tabulate f k ++ drop k ys) k (f k) ≡ tabulate f (suc k) ++ drop (suc k) ys
   unfolding listed
   tab_more ys k l =
-      ap (λ (r : List A). set (tabulate f k ++ r) k (f k)) (drop-cons ys k (f k) l) ∙ set_at (tabulate f k) (get_or ys k (f k)) (drop (suc k) ys) (f k) k (tab_length k) ∙
+      ap (λ (r : List A). set (tabulate f k ++ r) k (f k)) (drop-cons ys k (f k) l) ∙
+      set_at (tabulate f k) (get_or ys k (f k)) (drop (suc k) ys) (f k) k (tab_length k) ∙
       sym (append_assoc (tabulate f k) (f k ∷ []) (drop (suc k) ys))
-
-  -- it is as long as it was
-  pub tab_len : (ys : List A) (k : ℕ) → k ≤ length ys → length (tabulate f k ++ drop k ys) ≡ length ys
-  tab_len ys k l =
-      let a : length (tabulate f k ++ drop k ys) ≡ length (tabulate f k) + length (drop k ys) = length-append (tabulate f k) (drop k ys) in
-      let b : length (drop k ys) ≡ length ys - k = length-drop k ys in
-      let c : length (tabulate f k) ≡ k = tab_length k in
-      omega (arith, a, b, c, l)
 
   -- entry k of the table: it is among the first n, or the last
   at_last : (n k : ℕ) (d : A) → k ≡ n → get_or (tabulate f n ++ (f n ∷ [])) k d ≡ f k
-  at_last n k d same = rw same (subst (λ (j : ℕ). get_or (tabulate f n ++ (f n ∷ [])) j d ≡ f n) (tab_length n) (get_or-append_seam (tabulate f n) (f n) [] d))
+  at_last n k d same =
+      rw same
+      (subst (λ (j : ℕ). get_or (tabulate f n ++ (f n ∷ [])) j d ≡ f n) (tab_length n) (get_or-append_seam (tabulate f n) (f n) [] d))
 
   at_before : (n k : ℕ) (d : A) → k < n → get_or (tabulate f n) k d ≡ f k → get_or (tabulate f n ++ (f n ∷ [])) k d ≡ f k
   at_before n k d less ih =
@@ -58,7 +45,8 @@ module _ {A : Type 0} (f : ℕ → A) where
       let h : k < length (tabulate f n) = omega (arith, less, e) in
       get_or-append (tabulate f n) (f n ∷ []) d k h ∙ ih
 
-  at_by : (t : Bool) (n k : ℕ) (d : A) → ltb k n ≡ t → k < suc n → (k < n → get_or (tabulate f n) k d ≡ f k) → get_or (tabulate f n ++ (f n ∷ [])) k d ≡ f k
+  at_by : (t : Bool) (n k : ℕ) (d : A) → ltb k n ≡ t → k < suc n → (k < n → get_or (tabulate f n) k d ≡ f k)
+      → get_or (tabulate f n ++ (f n ∷ [])) k d ≡ f k
   at_by true n k d e l ih = at_before n k d (ltb-true k n e) (ih (ltb-true k n e))
   at_by false n k d e l ih =
       let h : n ≤ k = ltb-false k n e in

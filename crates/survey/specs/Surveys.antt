@@ -1,5 +1,5 @@
 -- The survey on lent lists: a participant's report, from the two lists that decide it, and the survey's refusals as a number. Assumes nothing.
-use Rattle.std.specs.Prelude.{List, [], ℕ, ◌+◌, eqb, ℤ, pos}
+use Rattle.std.specs.Prelude.{List, [], ℕ, ◌+◌, eqb, pos}
 use Rattle.definition.specs.Base.{branch, listed}
 use Rattle.definition.specs.Layout.{Lent, lent, tables_of}
 use Rattle.definition.specs.Survey.{report_of}
@@ -9,10 +9,6 @@ use Rattle.checks.specs.Refusals.{damage_of}
 -- a report of which the state is all that is said
 abbrev pub blank : ℕ → Report
 blank s = record { state = s; guards = 0; handles = 0; held = 0; distance = pos 0 }
-
--- a report, which is blank for the states 0 and 3
-abbrev pub seen : (state guards handles held : ℕ) → (distance : ℤ) → Report
-seen s g h k d = branch (eqb s 0) (blank 0) (branch (eqb s 3) (blank 3) (record { state = s; guards = g; handles = h; held = k; distance = d }))
 
 -- the report of participant p: it is the same in tables of any N above p (proofs/Laws, `report_in_lem`), so in those of p + 1
 unfoldable pub report_in : (globals participants : List ℕ) → ℕ → Report

@@ -6,28 +6,43 @@
 
 ghost use Rattle.std.specs.Prelude.{◌≡◌, ◌++◌, ◌+◌, ◌-◌, ◌*◌, ◌/◌, ◌≤◌, ◌<◌, length, drop};
 ghost use Rattle.definition.specs.Base.{branch};
-ghost use Rattle.definition.specs.Layout.{lent};
 ghost use Rattle.definition.specs.Ranges.{bit_words};
-ghost use Rattle.checks.specs.Refusals.{checked_of};
-ghost use Rattle.survey.specs.Surveys.{blank, seen, tabulate, report_in, survey_refusal};
+ghost use Rattle.lent.specs.Lists.{read};
+ghost use Rattle.refusals.specs.Numbers.{refused};
+ghost use Rattle.survey.specs.Surveys.{blank, tabulate, report_in, survey_refusal};
 
-use checks::{Checked, damage, pick, slot_free};
+use checks::{damage, slot_free};
 use definition::Report;
 use epoch::Epoch;
 use flow::links::is_tagged;
 use internal::places::is_register;
+use lent::{GLOBAL_EPOCH, Lists, PARTICIPANT_WORDS};
 use records::load;
+use refusals::{Refusal, refuse_if};
 
-// Words of a participant's row.
-const PARTICIPANT_WORDS: usize = 21;
+// The states of a slot, as document 01 numbers them. They stay numbers: the list of reports is the caller's, and may hold anything before.
+const FREE: u64 = 0;
 
-// Returns the state: 0 free, 1 registering, 2 registered, 3 deleted.
+const REGISTERING: u64 = 1;
+
+const REGISTERED: u64 = 2;
+
+const DELETED: u64 = 3;
+
+// Returns the state.
+#[tactic(auto, unfolding(definition::specs::Base::branch))]
 fn state_of(free: bool, deleted: bool, registering: bool) -> u64
     ensures { result ≡ branch free 0 (branch deleted 3 (branch registering 1 2)) }
 {
-    let there = pick(registering, 1, 2);
-    let listed = pick(deleted, 3, there);
-    pick(free, 0, listed)
+    if free {
+        FREE
+    } else if deleted {
+        DELETED
+    } else if registering {
+        REGISTERING
+    } else {
+        REGISTERED
+    }
 }
 
 // Returns a report of which the state is all that is said.
@@ -35,7 +50,7 @@ fn blank(state: u64) -> Report
     ensures { result ≡ blank state }
 {
     Report {
-        state: state,
+        state,
         guards: 0,
         handles: 0,
         held: 0,
@@ -43,21 +58,9 @@ fn blank(state: u64) -> Report
     }
 }
 
-// Returns the report, in which a slot that is free or deleted has its state alone.
-fn seen(r: Report) -> Report
-    ensures { result ≡ seen r.state r.guards r.handles r.held r.distance }
-{
-    let state = r.state;
-    if state == 0 {
-        return blank(0);
-    }
-    if state == 3 {
-        return blank(3);
-    }
-    r
-}
-
-// Returns the report of participant `p`.
+// Returns the report of participant `p`, in which a slot that is free or deleted has its state alone. (It takes the two lists that it reads:
+// `report_in` is the same for every number of participants and nodes.)
+#[tactic(auto, unfolding(definition::specs::Ranges::bit_words))]
 pub fn report_of(globals: &[u64], participants: &[u64], p: usize) -> Report
     requires { (5 + p / 64 < length globals.now) × (p * 21 + 21 ≤ length participants.now) }
     ensures { result ≡ report_in globals.now participants.now p }
@@ -65,53 +68,38 @@ pub fn report_of(globals: &[u64], participants: &[u64], p: usize) -> Report
     // any number of slots that p is one of will do
     let free = slot_free(globals, p + 1, p);
     let next = participants[p * PARTICIPANT_WORDS + 1];
-    let deleted = is_tagged(next);
     let o = load(participants, p);
-    let counts = o.counts;
-    let place = o.place;
-    let registering = is_register(place);
-    let global = Epoch(globals[0]);
+    let state = state_of(free, is_tagged(next), is_register(o.place));
+    if state == FREE || state == DELETED {
+        return blank(state);
+    }
+    let global = Epoch(globals[GLOBAL_EPOCH]);
     let word = Epoch(participants[p * PARTICIPANT_WORDS]);
-    seen(Report {
-        state: state_of(free, deleted, registering),
-        guards: counts.guards,
-        handles: counts.handles,
+    Report {
+        state,
+        guards: o.counts.guards,
+        handles: o.counts.handles,
         held: o.held,
         distance: global.wrapping_sub(word),
-    })
+    }
 }
 
 // Fills the first `n` places of the list with the reports of the first `n` participants.
-pub fn fill_reports(globals: &[u64], participants: &[u64], n: usize, list: &mut [Report])
-    requires { (n ≤ length list.old) × ((bit_words n ≤ length globals.now - 5) × (n * 21 ≤ length participants.now)) }
-    ensures { list.new ≡ tabulate (report_in globals.now participants.now) n ++ drop n list.old }
+#[tactic(auto, unfolding(definition::specs::Ranges::bit_words))]
+pub fn fill_reports(l: Lists<'_>, list: &mut [Report])
+    requires { (l.n ≤ length list.old) × ((bit_words l.n ≤ length l.globals.now - 5) × (l.n * 21 ≤ length l.participants.now)) }
+    ensures { list.new ≡ tabulate (report_in l.entry.globals.now l.entry.participants.now) l.entry.n ++ drop l.entry.n list.old }
 {
-    let mut k: usize = 0;
-    while k < n {
-        list[k] = report_of(globals, participants, k);
-        k += 1;
+    for p in 0..l.n {
+        list[p] = report_of(l.globals, l.participants, p);
     }
 }
 
 // Checks a survey into a list of so many places: 2, also where these are not `n`, then 1.
-pub fn check_survey(
-    n: usize,
-    m: usize,
-    globals: &[u64],
-    participants: &[u64],
-    nodes: &[u64],
-    held: &[u64],
-    queued: &[u64],
-    places: usize,
-) -> Checked
-    ensures { result ≡ checked_of (survey_refusal n m (lent globals.now participants.now nodes.now held.now queued.now) places) }
+#[tactic(auto, unfolding(crate::specs::Surveys::survey_refusal, definition::specs::Base::branch))]
+pub fn check_survey(l: Lists<'_>, places: usize) -> Result<(), Refusal>
+    ensures { refused result ≡ survey_refusal l.entry.n l.entry.m (read l.entry) places }
 {
-    if places != n {
-        return Checked::Refused(2);
-    }
-    let first = damage(n, m, globals, participants, nodes, held, queued);
-    if first != 0 {
-        return Checked::Refused(first);
-    }
-    Checked::Fine
+    refuse_if(places != l.n, Refusal::Sizes)?;
+    damage(l)
 }

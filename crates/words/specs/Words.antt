@@ -11,6 +11,14 @@ use Rattle.definition.specs.declared.Word.{Word}
 use Rattle.definition.specs.declared.Ask.{Ask}
 use Rattle.definition.specs.declared.Seen.{Seen}
 
+-- the shared words of the lists
+abbrev pub shared_of : Lent → Shared
+shared_of l = shared_from l.globals l.participants l.nodes
+
+-- and one of them
+abbrev pub word_of : Word → Lent → ℕ
+word_of w l = read w (shared_of l)
+
 -- the word that an access names
 abbrev pub named : Ask → Word
 named (Ask.Load w) = w
@@ -20,14 +28,14 @@ named (Ask.ExchangeWeak w e v) = w
 named (Ask.FetchOr w) = w
 
 -- a word lies in the lists: `globals` has the four words before the set-aside total, or the whole row of the participant or node is there
-abbrev pub word_in : Word → (globals participants nodes : List ℕ) → Type 0
-word_in Word.GlobalEpoch g p n = 4 ≤ length g
-word_in Word.ListHead g p n = 4 ≤ length g
-word_in (Word.EntryNext i) g p n = i.0 * 21 + 21 ≤ length p
-word_in (Word.ParticipantWord i) g p n = i.0 * 21 + 21 ≤ length p
-word_in Word.QueueHead g p n = 4 ≤ length g
-word_in Word.QueueTail g p n = 4 ≤ length g
-word_in (Word.NodeNext k) g p n = k.0 * 3 + 3 ≤ length n
+abbrev pub word_in : Word → Lent → Type 0
+word_in Word.GlobalEpoch l = 4 ≤ length l.globals
+word_in Word.ListHead l = 4 ≤ length l.globals
+word_in (Word.EntryNext i) l = i.0 * 21 + 21 ≤ length l.participants
+word_in (Word.ParticipantWord i) l = i.0 * 21 + 21 ≤ length l.participants
+word_in Word.QueueHead l = 4 ≤ length l.globals
+word_in Word.QueueTail l = 4 ≤ length l.globals
+word_in (Word.NodeNext k) l = k.0 * 3 + 3 ≤ length l.nodes
 
 -- what a store of v to a word does to each list
 unfoldable pub write_globals : Word → ℕ → List ℕ → List ℕ
@@ -57,11 +65,15 @@ write_nodes Word.QueueHead v n = n
 write_nodes Word.QueueTail v n = n
 write_nodes (Word.NodeNext k) v n = set n (k.0 * 3) v
 
--- a store of v to a word was made: the three lists before it and after it
-pub record Written (w : Word) (v : ℕ) (g p n : List ℕ) (g' p' n' : List ℕ) : Type 0 where
-  pub globals : g' ≡ write_globals w v g
-  pub participants : p' ≡ write_participants w v p
-  pub nodes : n' ≡ write_nodes w v n
+-- and to all the lent lists
+abbrev pub write_lent : Word → ℕ → Lent → Lent
+write_lent w v l = record {
+  globals = write_globals w v l.globals;
+  participants = write_participants w v l.participants;
+  nodes = write_nodes w v l.nodes;
+  held = l.held;
+  queued = l.queued;
+}
 
 -- what an access leaves of a list, by what a store does to it: an exchange stores only where it is done
 unfoldable pub left_by : (Word → ℕ → List ℕ → List ℕ) → Ask → Shared → List ℕ → List ℕ
@@ -71,21 +83,21 @@ left_by write (Ask.Exchange w e v) s l = branch (agrees w e s) (write w v l) l
 left_by write (Ask.ExchangeWeak w e v) s l = branch (agrees w e s) (write w v l) l
 left_by write (Ask.FetchOr w) s l = write w (tagged (read w s)) l
 
-abbrev pub left_globals : Ask → (globals participants nodes : List ℕ) → List ℕ
-left_globals ask g p n = left_by write_globals ask (shared_from g p n) g
+abbrev pub left_globals : Ask → Lent → List ℕ
+left_globals ask l = left_by write_globals ask (shared_of l) l.globals
 
-abbrev pub left_participants : Ask → (globals participants nodes : List ℕ) → List ℕ
-left_participants ask g p n = left_by write_participants ask (shared_from g p n) p
+abbrev pub left_participants : Ask → Lent → List ℕ
+left_participants ask l = left_by write_participants ask (shared_of l) l.participants
 
-abbrev pub left_nodes : Ask → (globals participants nodes : List ℕ) → List ℕ
-left_nodes ask g p n = left_by write_nodes ask (shared_from g p n) n
+abbrev pub left_nodes : Ask → Lent → List ℕ
+left_nodes ask l = left_by write_nodes ask (shared_of l) l.nodes
 
 -- and of all the lent lists
 abbrev pub left_lent : Ask → Lent → Lent
 left_lent ask l = record {
-  globals = left_globals ask l.globals l.participants l.nodes;
-  participants = left_participants ask l.globals l.participants l.nodes;
-  nodes = left_nodes ask l.globals l.participants l.nodes;
+  globals = left_globals ask l;
+  participants = left_participants ask l;
+  nodes = left_nodes ask l;
   held = l.held;
   queued = l.queued;
 }
@@ -94,9 +106,7 @@ left_lent ask l = record {
 abbrev pub seen_by : (marked : Bool) → Ask → Shared → Seen
 seen_by marked ask s = branch (fails marked ask) (missed (sees ask s)) (sees ask s)
 
--- an access was made: the three lists before it, what it saw, and the lists after it. One that fails for no reason leaves every list as it was
-pub record Made (marked : Bool) (ask : Ask) (g p n : List ℕ) (r : Seen) (g' p' n' : List ℕ) : Type 0 where
-  pub seen : r ≡ seen_by marked ask (shared_from g p n)
-  pub globals : g' ≡ branch (fails marked ask) g (left_globals ask g p n)
-  pub participants : p' ≡ branch (fails marked ask) p (left_participants ask g p n)
-  pub nodes : n' ≡ branch (fails marked ask) n (left_nodes ask g p n)
+-- an access was made: the lists before it, what it saw, and the lists after it. One that fails for no reason leaves every list as it was
+pub record Made (marked : Bool) (ask : Ask) (l : Lent) (r : Seen) (l' : Lent) : Type 0 where
+  pub seen : r ≡ seen_by marked ask (shared_of l)
+  pub lent : l' ≡ branch (fails marked ask) l (left_lent ask l)

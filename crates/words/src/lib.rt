@@ -6,160 +6,120 @@
 //
 // A step may be marked (document 02, No. 2): then its `compare_exchange_weak` fails although the value agrees. No other access looks at the mark.
 //
-// Each promise says what the access sees, as specs/Rule of `definition` has it, and all three lists afterwards, as specs/Words has
+// Each promise says what the access sees, as specs/Rule of `definition` has it, and all the lists afterwards, as specs/Words has
 // them. What is required is only that the word named lies in the lists.
 #![tactic(auto)]
 
 ghost use Rattle.std.specs.Prelude.{◌≡◌, false};
-ghost use Rattle.definition.specs.Tables.{read};
-ghost use Rattle.definition.specs.Layout.{shared_from};
-ghost use Rattle.words.specs.Words.{named, word_in, Written, Made};
+ghost use Rattle.lent.specs.Lists.{read, lent, Same};
+ghost use Rattle.words.specs.Words.{named, word_in, word_of, write_lent, Made};
 
 use definition::{Ask, Seen, Word};
+use lent::{
+    GLOBAL_EPOCH, LIST_HEAD, Lists, ListsMut, NODE_WORDS, PARTICIPANT_WORDS, QUEUE_HEAD, QUEUE_TAIL,
+};
+
+// Where its entry's next stands in a participant's row: after its epoch.
+const ENTRY_NEXT: usize = 1;
 
 // Returns the value of a shared word.
-pub fn read_word(globals: &[u64], participants: &[u64], nodes: &[u64], w: Word) -> u64
-    requires { word_in w globals.now participants.now nodes.now }
-    ensures { result ≡ read w (shared_from globals.now participants.now nodes.now) }
+pub fn read_word(l: Lists<'_>, w: Word) -> u64
+    requires { word_in w (read l) }
+    ensures { result ≡ word_of w (read l.entry) }
 {
     match w {
-        Word::GlobalEpoch => globals[0],
-        Word::ListHead => globals[1],
-        Word::EntryNext(s) => participants[s.0 as usize * 21 + 1],
-        Word::ParticipantWord(s) => participants[s.0 as usize * 21],
-        Word::QueueHead => globals[2],
-        Word::QueueTail => globals[3],
-        Word::NodeNext(n) => nodes[n.0 as usize * 3],
+        Word::GlobalEpoch => l.globals[GLOBAL_EPOCH],
+        Word::ListHead => l.globals[LIST_HEAD],
+        Word::EntryNext(s) => l.participants[s.0 as usize * PARTICIPANT_WORDS + ENTRY_NEXT],
+        Word::ParticipantWord(s) => l.participants[s.0 as usize * PARTICIPANT_WORDS],
+        Word::QueueHead => l.globals[QUEUE_HEAD],
+        Word::QueueTail => l.globals[QUEUE_TAIL],
+        Word::NodeNext(n) => l.nodes[n.0 as usize * NODE_WORDS],
     }
 }
 
 // Stores `v` to a shared word.
-pub fn write_word(globals: &mut [u64], participants: &mut [u64], nodes: &mut [u64], w: Word, v: u64)
-    requires { word_in w globals.old participants.old nodes.old }
-    ensures { Written w v globals.old participants.old nodes.old
-        globals.new participants.new nodes.new }
+#[tactic(auto, unfolding(crate::specs::Words::write_globals, crate::specs::Words::write_participants, crate::specs::Words::write_nodes))]
+pub fn write_word(l: &mut ListsMut<'_>, w: Word, v: u64)
+    requires { word_in w (lent l.old) }
+    ensures written { lent l.new ≡ write_lent w v (lent l.old) }
+    ensures same { Same l.old l.new }
 {
     match w {
-        Word::GlobalEpoch => {
-            globals[0] = v;
-        }
-        Word::ListHead => {
-            globals[1] = v;
-        }
-        Word::EntryNext(s) => {
-            participants[s.0 as usize * 21 + 1] = v;
-        }
-        Word::ParticipantWord(s) => {
-            participants[s.0 as usize * 21] = v;
-        }
-        Word::QueueHead => {
-            globals[2] = v;
-        }
-        Word::QueueTail => {
-            globals[3] = v;
-        }
-        Word::NodeNext(n) => {
-            nodes[n.0 as usize * 3] = v;
-        }
+        Word::GlobalEpoch => l.globals[GLOBAL_EPOCH] = v,
+        Word::ListHead => l.globals[LIST_HEAD] = v,
+        Word::EntryNext(s) => l.participants[s.0 as usize * PARTICIPANT_WORDS + ENTRY_NEXT] = v,
+        Word::ParticipantWord(s) => l.participants[s.0 as usize * PARTICIPANT_WORDS] = v,
+        Word::QueueHead => l.globals[QUEUE_HEAD] = v,
+        Word::QueueTail => l.globals[QUEUE_TAIL] = v,
+        Word::NodeNext(n) => l.nodes[n.0 as usize * NODE_WORDS] = v,
     }
 }
 
 // Exchanges `expected` for `new`, which is done only where the word has the expected value. Returns the value found.
-fn compare_exchange(
-    globals: &mut [u64],
-    participants: &mut [u64],
-    nodes: &mut [u64],
-    w: Word,
-    expected: u64,
-    new: u64,
-) -> Seen
-    requires { word_in w globals.old participants.old nodes.old }
-    ensures { Made false (Ask.Exchange w expected new) globals.old participants.old nodes.old
-        result globals.new participants.new nodes.new }
+fn compare_exchange(l: &mut ListsMut<'_>, w: Word, expected: u64, new: u64) -> Seen
+    requires { word_in w (lent l.old) }
+    ensures made { Made false (Ask.Exchange w expected new) (lent l.old) result (lent l.new) }
+    ensures same { Same l.old l.new }
 {
-    let found = read_word(globals, participants, nodes, w);
-    if found != expected {
-        return Seen {
-            value: found,
-            won: false,
-        };
+    let value = read_word(l.read(), w);
+    let won = value == expected;
+    if won {
+        write_word(l, w, new);
     }
-    write_word(globals, participants, nodes, w, new);
-    Seen {
-        value: found,
-        won: true,
-    }
+    Seen { value, won }
 }
 
 // The same by the Rust's `compare_exchange_weak`, which may fail although the word has the expected value: so it does where it is marked.
 fn compare_exchange_weak(
-    globals: &mut [u64],
-    participants: &mut [u64],
-    nodes: &mut [u64],
+    l: &mut ListsMut<'_>,
     w: Word,
     expected: u64,
     new: u64,
     marked: bool,
 ) -> Seen
-    requires { word_in w globals.old participants.old nodes.old }
-    ensures { Made marked (Ask.ExchangeWeak w expected new) globals.old participants.old nodes.old
-        result globals.new participants.new nodes.new }
+    requires { word_in w (lent l.old) }
+    ensures made { Made marked (Ask.ExchangeWeak w expected new) (lent l.old) result (lent l.new) }
+    ensures same { Same l.old l.new }
 {
     if marked {
-        let found = read_word(globals, participants, nodes, w);
-        return Seen {
-            value: found,
-            won: false,
-        };
+        let value = read_word(l.read(), w);
+        return Seen { value, won: false };
     }
-    compare_exchange(globals, participants, nodes, w, expected, new)
+    compare_exchange(l, w, expected, new)
 }
 
 // Sets the tag of a word. Returns the value found.
-fn fetch_or(globals: &mut [u64], participants: &mut [u64], nodes: &mut [u64], w: Word) -> Seen
-    requires { word_in w globals.old participants.old nodes.old }
-    ensures { Made false (Ask.FetchOr w) globals.old participants.old nodes.old
-        result globals.new participants.new nodes.new }
+fn fetch_or(l: &mut ListsMut<'_>, w: Word) -> Seen
+    requires { word_in w (lent l.old) }
+    ensures made { Made false (Ask.FetchOr w) (lent l.old) result (lent l.new) }
+    ensures same { Same l.old l.new }
 {
-    let found = read_word(globals, participants, nodes, w);
-    write_word(globals, participants, nodes, w, found | 1);
-    Seen {
-        value: found,
-        won: true,
-    }
+    let value = read_word(l.read(), w);
+    write_word(l, w, value | 1);
+    Seen { value, won: true }
 }
 
 // Makes the access that a place asks for, in a step that is marked or not. Returns what it saw.
-pub fn perform(
-    globals: &mut [u64],
-    participants: &mut [u64],
-    nodes: &mut [u64],
-    ask: Ask,
-    marked: bool,
-) -> Seen
-    requires { word_in (named ask) globals.old participants.old nodes.old }
-    ensures { Made marked ask globals.old participants.old nodes.old
-        result globals.new participants.new nodes.new }
+pub fn perform(l: &mut ListsMut<'_>, ask: Ask, marked: bool) -> Seen
+    requires { word_in (named ask) (lent l.old) }
+    ensures made { Made marked ask (lent l.old) result (lent l.new) }
+    ensures same { Same l.old l.new }
 {
     match ask {
         Ask::Load(w) => {
-            let found = read_word(globals, participants, nodes, w);
-            Seen {
-                value: found,
-                won: true,
-            }
+            let value = read_word(l.read(), w);
+            Seen { value, won: true }
         }
         Ask::Store(w, v) => {
-            write_word(globals, participants, nodes, w, v);
+            write_word(l, w, v);
             Seen {
                 value: 0,
                 won: true,
             }
         }
-        Ask::Exchange(w, e, v) => compare_exchange(globals, participants, nodes, w, e, v),
-        Ask::ExchangeWeak(w, e, v) => {
-            compare_exchange_weak(globals, participants, nodes, w, e, v, marked)
-        }
-        Ask::FetchOr(w) => fetch_or(globals, participants, nodes, w),
+        Ask::Exchange(w, e, v) => compare_exchange(l, w, e, v),
+        Ask::ExchangeWeak(w, e, v) => compare_exchange_weak(l, w, e, v, marked),
+        Ask::FetchOr(w) => fetch_or(l, w),
     }
 }

@@ -1,26 +1,18 @@
--- The loop's invariant: the token is not among the first i items. An item that is the token decides the answer
--- (`found_there`), one that is not leaves it out of one more (`found_not`).
-use mathlib.Core.Path.{◌≡◌, sym}
-use native.Mathlib.Omega.{arith}
+-- The token is in the bag where one of the words stands for it.
+use mathlib.Core.Path.{◌∙◌}
+use mathlib.Core.List.{[], ◌∷◌}
+use Prim.Native.Nat.{◌*◌}
 use borrow.Author.Rules.{rules}
-use Rattle.definition.proofs.Held.{held_none}
-use Rattle.bags.proofs.Items.{found_there, found_not}
+use Rattle.std.proofs.lemmas.Iterator.{YieldsList-from_slice}
+use Rattle.std.proofs.lemmas.Iterator.Search.{any_from_yields_List}
+use Rattle.definition.specs.Base.{among}
+use Rattle.definition.specs.Bags.{item_of, tokens}
+use Rattle.bags.proofs.Turns.{held_all}
 use Rattle.bags.proofs.holds_token.Goals as goal
-
-pub loop-i-init : goal.loop-i-init
-loop-i-init c = (search rules, held_none _ _)
-
-pub returns-then-found : goal.returns-then-found
-returns-then-found c =
-    found_there _ _ c.args.k c.loop-i.i _ (omega arith) c.is_token-found.ensures c.if-found.true
-
-pub loop-i-preserved : goal.loop-i-preserved
-loop-i-preserved c =
-    let l = c.loop-i in
-    (omega arith, found_not _ _ l.i _ l.invariant.1 c.is_token-found.ensures c.if-found.false)
 
 pub returns : goal.returns
 returns c =
-    let l = c.loop-i in
-    let e : l.i ≡ c.args.k = omega arith in
-    rw (← e) (sym l.invariant.1)
+    let a = c.args in
+    any_from_yields_List (λ w. among a.token (tokens (item_of w ∷ []))) _ _ _ c.any.ensures.ran
+    (YieldsList-from_slice _ c.iter.ensures.rest) (λ x b q k. search rules)
+    ∙ held_all a.token a.held.now (a.p * 64) a.k c.requires

@@ -1,6 +1,6 @@
--- The invariant: every bit of the words before j is clear. So the lowest bit of the first word that is
--- not 0 is the least, and it is below n, since no bit at n or beyond is set; where every word is 0, none is.
-use Prim.Native.Nat.{ℕ, ◌-◌, ◌*◌, ◌≤◌, ◌<◌}
+-- Every bit of the words before j is clear. So the lowest bit of the first word that is not 0 is the least, and it is below n, since no
+-- bit at n or beyond is set; where every word is 0, none is.
+use Prim.Native.Nat.{ℕ, ◌*◌, ◌<◌}
 use mathlib.Core.Path.{◌≡◌}
 use mathlib.Core.Bool.{false}
 use Rattle.definition.specs.Layout.{bits}
@@ -8,7 +8,4 @@ use Rattle.bits.specs.Bits.{words_at}
 use Rattle.bits.proofs.first_free.Given as goal
 
 abbrev pub invariant-loop-j : goal.invariant-loop-j
-invariant-loop-j l = (l.j ≤ l.k) × ((i : ℕ) → i < 64 * l.j → bits l.k (words_at l.globals l.at) i ≡ false)
-
-abbrev pub decreases-loop-j : goal.decreases-loop-j
-decreases-loop-j l = l.k - l.j
+invariant-loop-j l = (i : ℕ) → i < 64 * l.j → bits l.k (words_at l.globals l.at) i ≡ false

@@ -1,11 +1,9 @@
--- A bag that is too long is refused as the definition refuses it, and of another the words that it holds are
--- those of its row (`bag-row`).
-use mathlib.Core.Path.{◌∙◌}
-use Rattle.ranges.proofs.Laws.{bag_over, bag-row}
+-- The words that the bag holds are the first of its row (`bag_row`).
+use Rattle.std.proofs.Common.{◌∙◌, arith}
+use Rattle.ranges.proofs.Laws.{bag_row}
 use Rattle.ranges.proofs.bag_in.Goals as goal
 
-pub returns-then-k-gt-MAX_OBJECTS : goal.returns-then-k-gt-MAX_OBJECTS
-returns-then-k-gt-MAX_OBJECTS c = bag_over _ _ _ _ c.if-k-gt-MAX_OBJECTS.true
-
-pub returns : goal.returns
-returns c = c.items_in.ensures ∙ bag-row _ _ _ _ _ c.if-k-gt-MAX_OBJECTS.false
+pub returns-then-k-le-MAX_OBJECTS : goal.returns-then-k-le-MAX_OBJECTS
+returns-then-k-le-MAX_OBJECTS c =
+    let a = c.args in
+    c.items_in.ensures ∙ bag_row a.n a.m a.k a.items.now a.row (omega arith) (omega arith)

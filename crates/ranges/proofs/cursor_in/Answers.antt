@@ -1,7 +1,15 @@
--- Both parts are asked, by their own functions.
-use Rattle.definition.specs.Ranges.{cursor_in}
+-- A predecessor is in range where it is so as a pointer.
+use Rattle.std.proofs.Common.{◌≡◌, ◌∙◌, sym, ap, true, false}
+use Rattle.definition.specs.Ranges.{pred_in, ptr_in, cursor_in}
+use Rattle.definition.proofs.Preds.{pred_range}
 use Rattle.ranges.proofs.cursor_in.Goals as goal
 
-pub returns : goal.returns
+pub returns-then-ptr_in : goal.returns-then-ptr_in
 unfolding cursor_in
-returns c m = rw (c.slot_in.ensures m, c.pred_in.ensures m)
+returns-then-ptr_in c m =
+    rw (← pred_range c.args.n m c.args.at.pred, ← c.from.ensures, ← c.ptr_in.ensures m, c.if-ptr_in.true, c.slot_in.ensures m)
+
+pub returns-else-ptr_in : goal.returns-else-ptr_in
+unfolding cursor_in
+returns-else-ptr_in c m =
+    rw (← pred_range c.args.n m c.args.at.pred, ← c.from.ensures, ← c.ptr_in.ensures m, c.if-ptr_in.false)

@@ -1,14 +1,18 @@
--- Each comparison is the definition's, and the constants are its numbers.
-use native.Mathlib.Omega.{arith}
-use Rattle.definition.specs.Bags.{max_objects}
-use Rattle.definition.specs.Ranges.{bit_words}
-use Rattle.definition.specs.Layout.{sized, global_words, participant_words, node_words}
+-- The constants are the definition's (`sized_words`).
+use Rattle.std.proofs.Common.{rules, ◌∙◌}
+use Rattle.definition.specs.Layout.{global_words}
+use Rattle.lent.specs.Lists.{read}
+use Rattle.ranges.proofs.Laws.{sized_words}
 use Rattle.ranges.proofs.lengths.Goals as goal
 
-pub overflow_add-result : goal.overflow_add-result
-unfolding bit_words global_words
-overflow_add-result c = omega (arith, c.bit_words.ensures, c.node_bits_at.ensures)
+pub returns-then-l-3 : goal.returns-then-l-3
+unfolding global_words
+returns-then-l-3 c =
+    let l = c.args.l in
+    search rules ∙ sized_words l.n l.m (read l)
 
-pub returns : goal.returns
-unfolding sized global_words participant_words node_words max_objects
-returns c = rw (c.node_bits_at.ensures, c.bit_words.ensures)
+pub returns-else-l-3 : goal.returns-else-l-3
+unfolding global_words
+returns-else-l-3 c =
+    let l = c.args.l in
+    search rules ∙ sized_words l.n l.m (read l)

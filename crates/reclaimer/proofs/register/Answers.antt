@@ -1,12 +1,24 @@
 -- What the check refuses is refused, and where it finds a free slot a registration may begin.
+use mathlib.Core.Path.{◌∙◌}
+use Rattle.checks.specs.Refusals.{register_refusal}
+use Rattle.lent.proofs.Laws.{same_self, read_as}
 use Rattle.reclaimer.proofs.Laws.{register_refuses, may_register, registered}
 use Rattle.reclaimer.proofs.register.Goals as goal
 
 pub returns-in_default : goal.returns-in_default
-returns-in_default c = register_refuses _ _ _ _ c.check_register-checked.ensures _ c.in_default.is _ c.refused.ensures
+returns-in_default c =
+    let r = c.read.ensures in
+    let e = c.check_register-checked.ensures ∙ read_as register_refusal c.read.result c.args.l.now r.n r.m r.lists in
+    record { outcome = register_refuses _ _ _ _ e _ c.in_default.is _ c.refused.ensures; same = same_self _ }
 
 pub enroll-requires : goal.enroll-requires
-enroll-requires c = may_register _ _ _ _ c.check_register-checked.ensures c.in-Fine.is
+enroll-requires c =
+    let r = c.read.ensures in
+    let e = c.check_register-checked.ensures ∙ read_as register_refusal c.read.result c.args.l.now r.n r.m r.lists in
+    may_register _ _ _ _ e _ c.in-Ok.is
 
 pub returns : goal.returns
-returns c = registered _ _ _ _ c.check_register-checked.ensures c.in-Fine.is _ _ _ _ c.enroll.ensures (λ j. (c.type_inv.globals j).fits)
+returns c =
+    let r = c.read.ensures in
+    let e = c.check_register-checked.ensures ∙ read_as register_refusal c.read.result c.args.l.now r.n r.m r.lists in
+    record { outcome = registered _ _ _ _ e _ c.in-Ok.is _ _ c.enroll.ensures.enrolled; same = c.enroll.ensures.same }

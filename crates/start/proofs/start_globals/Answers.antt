@@ -1,5 +1,5 @@
--- The list is cleared, then the queue's ends are set, then the slots are given back, then the nodes, and
--- that is the definition's list (`globals-started`).
+-- The list is cleared, then the queue's ends are set, then the slots are given back, then the nodes, and that is the definition's
+-- list (`globals-started`).
 use native.Mathlib.Omega.{arith}
 use lib.ListN.{set, length-set}
 use Rattle.definition.specs.Ranges.{bit_words}
@@ -7,23 +7,20 @@ use Rattle.definition.specs.Layout.{global_words}
 use Rattle.start.proofs.Laws.{globals-started}
 use Rattle.start.proofs.start_globals.Goals as goal
 
-pub bounds-globals-3 : goal.bounds-globals-3
-bounds-globals-3 c = simp length-set (omega arith)
-
 pub give_from-requires : goal.give_from-requires
 unfolding bit_words global_words
-give_from-requires c = simp length-set (omega (arith, c.slot_bits_at-slots.ensures))
+give_from-requires c = simp length-set (omega (arith, c.slot_bits_at.ensures, c.fill.ensures.len))
 
 pub give_from-requires-2 : goal.give_from-requires-2
 unfolding bit_words global_words
 give_from-requires-2 c =
-    let g = c.clear.new.l in
-    omega (arith, length-set (set g 2 2) 3 2, length-set g 2 2, c.node_bits_at-nodes.ensures)
+    let g = c.fill.new.self in
+    omega (arith, length-set (set g 2 2) 3 2, length-set g 2 2, c.fill.ensures.len, c.node_bits_at.ensures)
 
 pub returns : goal.returns
 returns c =
     let pre = c.requires in
-    globals-started _ _ pre.0 c.args.globals.now _ _ _ pre.1 c.clear.ensures
-    (rw c.slot_bits_at-slots.ensures at c.give_from.ensures)
-    (rw c.node_bits_at-nodes.ensures at c.give_from-2.ensures)
+    globals-started _ _ pre.0 c.args.globals.now _ _ _ pre.1 (c.fill.ensures.after (λ y e. e))
+    (rw c.slot_bits_at.ensures at c.give_from.ensures)
+    (rw c.node_bits_at.ensures at c.give_from-2.ensures)
     (λ j. (c.type_inv.globals j).fits)

@@ -9,10 +9,10 @@ use Rattle.step.proofs.seal_of.Goals as goal
 
 pub returns-then-i-m : goal.returns-then-i-m
 unfolding node_at
-returns-then-i-m c = rw c.node_at-node.ensures refl
+returns-then-i-m c = rw c.node_at-i.ensures refl
 
 pub returns-else-i-m : goal.returns-else-i-m
 unfolding node_at
 returns-else-i-m c =
-    let i : c.node_at-node.result.0 ≡ index c.args.value = ap (λ (n : Node). n.0) c.node_at-node.ensures in
+    let i : c.node_at-i.result.0 ≡ index c.args.value = ap (λ (n : Node). n.0) c.node_at-i.ensures in
     sym (get_or_beyond c.args.nodes.now (index c.args.value * 3 + 1) (omega (arith, i, c.requires, c.if-i-m.false)))

@@ -1,0 +1,2 @@
+-- What holds of values that lend the lists.
+pub mod Laws

@@ -1,0 +1,2 @@
+-- What promises on lent lists cite.
+pub mod Lists

@@ -1,0 +1,75 @@
+// The lent lists, with the sizes that they are lent for, as one value: for N participants and M nodes the words that are nobody's, a row
+// for each participant, a row for each node, and a row of items for each participant's bag and for each node's.
+//
+// They always go together, so a function takes them together. A caller may lend lists of any length with any sizes: nothing is asked of
+// them here, and what must hold of them is looked at by the public calls (crate `ranges`). Beside them stands where a word is found, each
+// number once; the definition says the same in specs/Layout.
+#![tactic(auto)]
+
+ghost use Rattle.std.specs.Prelude.{◌≡◌};
+ghost use Rattle.lent.specs.Lists.{read, lent};
+
+// Words of `globals` before the free bits: the global epoch, the head of the list, both ends of the queue, the set-aside total.
+pub const GLOBAL_WORDS: usize = 5;
+
+pub const GLOBAL_EPOCH: usize = 0;
+
+pub const LIST_HEAD: usize = 1;
+
+pub const QUEUE_HEAD: usize = 2;
+
+pub const QUEUE_TAIL: usize = 3;
+
+pub const ASIDE: usize = 4;
+
+// Words of a participant's row: its epoch, its entry's next, and then its record.
+pub const PARTICIPANT_WORDS: usize = 21;
+
+// Words of a node's row: its next, the seal of its bag, and the length of that.
+pub const NODE_WORDS: usize = 3;
+
+// Words of a bag's row: one for each item that it has room for.
+pub const BAG_WORDS: usize = 64;
+
+// The lists, lent to be read.
+#[derive(Clone, Copy)]
+pub struct Lists<'a> {
+    pub n: usize,
+    pub m: usize,
+    pub globals: &'a [u64],
+    pub participants: &'a [u64],
+    pub nodes: &'a [u64],
+    pub held: &'a [u64],
+    pub queued: &'a [u64],
+}
+
+// The lists, lent to be changed.
+#[derive(Drop)]
+pub struct ListsMut<'a> {
+    pub n: usize,
+    pub m: usize,
+    pub globals: &'a mut [u64],
+    pub participants: &'a mut [u64],
+    pub nodes: &'a mut [u64],
+    pub held: &'a mut [u64],
+    pub queued: &'a mut [u64],
+}
+
+impl ListsMut<'_> {
+    // The same lists, to be read.
+    pub fn read(&self) -> Lists<'_>
+        ensures n { result.n ≡ self.now.n }
+        ensures m { result.m ≡ self.now.m }
+        ensures lists { read result ≡ lent self.now }
+    {
+        Lists {
+            n: self.n,
+            m: self.m,
+            globals: self.globals,
+            participants: self.participants,
+            nodes: self.nodes,
+            held: self.held,
+            queued: self.queued,
+        }
+    }
+}

@@ -1,0 +1,2 @@
+-- What holds of the numbers of refusals.
+pub mod Numbers

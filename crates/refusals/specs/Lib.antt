@@ -1,0 +1,2 @@
+-- What promises on refusals cite.
+pub mod Numbers

@@ -1,5 +1,0 @@
--- The measure is the number of turns left.
-use Rattle.schedule.proofs.run.Given as goal
-
-abbrev pub decreases-loop-turns : goal.decreases-loop-turns
-decreases-loop-turns g l = l.turns
