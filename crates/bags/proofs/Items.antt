@@ -3,10 +3,10 @@
 use mathlib.Core.Path.{◌≡◌, refl, ◌∙◌}
 use mathlib.Core.Bool.{Bool, true, false}
 use mathlib.Core.List.{List, [], ◌∷◌, ◌++◌}
-use Prim.Native.Nat.{ℕ, zero, suc, ◌+◌, ◌*◌, ◌/◌, ◌%◌, ◌^◌, ◌≤◌, ◌<◌}
+use Prim.Native.Nat.{ℕ, zero, suc, ◌+◌, ◌-◌, ◌*◌, ◌/◌, ◌%◌, ◌^◌, ◌≤◌, ◌<◌}
 use native.Mathlib.Omega.{arith}
 use lib.Dec.{ltb, eqb}
-use lib.ListN.{length, drop, length-append, length-drop}
+use lib.ListN.{length, take, drop, length-append, length-drop}
 use borrow.Author.Tests.{ltb-true}
 use Rattle.definition.specs.Base.{branch, Tab, put, listed, among}
 use Rattle.definition.specs.Bags.{item_word, item_of, items, tokens, free_slots, free_nodes}
@@ -16,6 +16,8 @@ use Rattle.definition.specs.declared.Node.{Node}
 use Rattle.definition.specs.declared.Item.{Item}
 use Rattle.definition.proofs.Base.{branch_ind, both}
 use Rattle.definition.proofs.Held.{tokens_append}
+use Rattle.bits.specs.Bits.{words_at, words_of}
+use Rattle.bits.proofs.Laws.{slice_word, length_slice}
 use Rattle.bags.specs.Bags.{filled, free_item, free_items, item_value}
 
 -- ---- words
@@ -58,6 +60,12 @@ pub items_same : (k : ℕ) (c d : Tab ℕ) → ((j : ℕ) → j < k → c j ≡ 
 unfolding items listed
 items_same zero c d h = refl
 items_same (suc k) c d h = rw (items_same k c d (λ j l. h j (omega arith)), h k (omega arith))
+
+-- a bag's words lent alone are the same items as in their list
+pub items_slice : (l : List ℕ) (at k : ℕ) → at + k ≤ length l
+    → items (length (take (at + k - at) (drop at l))) (words_of (take (at + k - at) (drop at l))) ≡ items k (words_at l at)
+items_slice l at k fits =
+    rw (length_slice l at k fits) (items_same k (words_of (take (at + k - at) (drop at l))) (words_at l at) (slice_word l at k))
 
 -- ---- a token looked for
 

@@ -2,11 +2,11 @@
 use mathlib.Core.Path.{◌≡◌, refl, sym, ap, ◌∙◌}
 use mathlib.Core.Bool.{Bool, true, false, ◌||◌}
 use mathlib.Core.List.{List, [], ◌∷◌, ◌++◌, append-nil}
-use Prim.Native.Nat.{ℕ, zero, suc, ◌+◌, ◌-◌, ◌≤◌, ◌<◌}
+use Prim.Native.Nat.{ℕ, zero, suc, ◌+◌, ◌≤◌, ◌<◌}
 use native.Mathlib.Numerals.{add-one}
 use native.Mathlib.Omega.{arith}
-use lib.ListN.{length, get_or, set, take, drop, length-append, length-drop}
-use lib.Seq.{drop-cons, get_or-drop, set-append_seam, append_snoc, sets}
+use lib.ListN.{length, get_or, set, take, drop, length-append}
+use lib.Seq.{take-length, drop-cons, set-append_seam, append_snoc, sets}
 use Rattle.std.specs.List.{list_any}
 use Rattle.std.proofs.lemmas.List.Folds.{list_any_more}
 use Rattle.definition.specs.Base.{branch, Tab, listed, among}
@@ -14,7 +14,7 @@ use Rattle.definition.specs.Bags.{item_of, items, tokens}
 use Rattle.definition.specs.declared.Item.{Item}
 use Rattle.definition.proofs.Base.{all_at}
 use Rattle.definition.proofs.Held.{tokens_append, held_none, held_more}
-use Rattle.bits.specs.Bits.{words_at}
+use Rattle.bits.specs.Bits.{words_of}
 use Rattle.bags.specs.Bags.{filled, free_item, free_items, has_bit, have_bits}
 use Rattle.bags.proofs.Freeing.{length-free_items}
 use Rattle.bags.proofs.Items.{free_items_append, tokens_few, length-filled}
@@ -25,22 +25,21 @@ unfolding branch
 or_branch true b = refl
 or_branch false b = refl
 
--- `holds_token`: whether the token is among the first m of k items
-held_any : (x : ℕ) (h : List ℕ) (at k : ℕ) → at + k ≤ length h → (m : ℕ) → m ≤ k
-    → list_any (λ w. among x (tokens (item_of w ∷ []))) (take m (drop at h)) ≡ among x (tokens (items m (words_at h at)))
-held_any x h at k le zero l = sym (held_none x (words_at h at))
-held_any x h at k le (suc m) l =
+-- `holds_token`: whether the token is among the first m words of a bag
+held_any : (x : ℕ) (ws : List ℕ) (m : ℕ) → m ≤ length ws
+    → list_any (λ w. among x (tokens (item_of w ∷ []))) (take m ws) ≡ among x (tokens (items m (words_of ws)))
+held_any x ws zero l = sym (held_none x (words_of ws))
+held_any x ws (suc m) l =
     let one : ℕ → Bool = λ w. among x (tokens (item_of w ∷ [])) in
-    let long : m < length (drop at h) = simp length-drop (omega arith) in
-    ap (λ (n : ℕ). list_any one (take n (drop at h))) (sym (add-one m)) ∙ list_any_more one (drop at h) m 0 long
-    ∙ rw (held_any x h at k le m (omega arith), get_or-drop) (or_branch (among x (tokens (items m (words_at h at)))) (one (get_or h (at + m) 0)))
-    ∙ sym (held_more x (words_at h at) m)
+    ap (λ (n : ℕ). list_any one (take n ws)) (sym (add-one m)) ∙ list_any_more one ws m 0 l
+    ∙ rw (held_any x ws m (omega arith)) (or_branch (among x (tokens (items m (words_of ws)))) (one (get_or ws m 0)))
+    ∙ sym (held_more x (words_of ws) m)
 
-pub held_all : (x : ℕ) (h : List ℕ) (at k : ℕ) → at + k ≤ length h
-    → list_any (λ w. among x (tokens (item_of w ∷ []))) (take (at + k - at) (drop at h)) ≡ among x (tokens (items k (words_at h at)))
-held_all x h at k le =
-    let e : at + k - at ≡ k = omega arith in
-    rw e (held_any x h at k le k (omega arith))
+-- and among all of them
+pub held_all : (x : ℕ) (ws : List ℕ)
+    → list_any (λ w. among x (tokens (item_of w ∷ []))) ws ≡ among x (tokens (items (length ws) (words_of ws)))
+held_all x ws =
+    ap (list_any (λ w. among x (tokens (item_of w ∷ [])))) (sym (take-length ws)) ∙ held_any x ws (length ws) (omega arith)
 
 -- ---- `free_items`: one more item is freed
 

@@ -10,7 +10,7 @@ ghost use Rattle.std.specs.Prelude.{◌≡◌, true, [], ◌∷◌, ◌+◌, ◌
 ghost use Rattle.std.proofs.Math.Seq.{paste};
 ghost use Rattle.definition.specs.Base.{among};
 ghost use Rattle.definition.specs.Bags.{places_left, item_word, item_of, items, tokens};
-ghost use Rattle.bits.specs.Bits.{words_at};
+ghost use Rattle.bits.specs.Bits.{words_at, words_of};
 ghost use Rattle.bags.specs.Bags.{stamped, bag_len, bag_items, filled, free_items, have_bits};
 
 use definition::{Item, Node, Slot};
@@ -44,7 +44,7 @@ pub fn item_of(w: u64) -> Item
     }
 }
 
-// Puts an item at place `k` of participant `p`'s bag, which has room. Returns the places left after it.
+// Puts an item at place `k` of participant `p`'s bag, which has room. Returns the places left after it. (`k` is a place of the row, not a length.)
 pub fn put_item(held: &mut [u64], p: usize, k: usize, item: Item) -> u64
     requires k_bound { k < 64 }
     requires k_in_bounds { (p * 64 + k < length held.old) × (item_word item < 2 ^ 64) }
@@ -54,13 +54,11 @@ pub fn put_item(held: &mut [u64], p: usize, k: usize, item: Item) -> u64
     Bag::places_left(k as u64 + 1)
 }
 
-// Returns whether one of the `k` items of participant `p`'s bag is this token.
-pub fn holds_token(held: &[u64], p: usize, k: usize, token: u64) -> bool
-    requires { p * 64 + k ≤ length held.now }
-    ensures { result ≡ among token (tokens (items k (words_at held.now (p * 64)))) }
+// Returns whether one of the items of a bag, lent alone, is this token.
+pub fn holds_token(bag: &[u64], token: u64) -> bool
+    ensures { result ≡ among token (tokens (items (length bag.now) (words_of bag.now))) }
 {
-    let at = p * BAG_WORDS;
-    held[at..at + k].iter().any(|w| is_token(*w, token))
+    bag.iter().any(|w| is_token(*w, token))
 }
 
 // Returns whether the item that a word stands for is this token. A node or a slot of the same number is none.
@@ -75,6 +73,7 @@ fn is_token(w: u64, token: u64) -> bool
 }
 
 // Moves participant `p`'s bag of `k` items into a node and seals it with `e`. The node's next is null.
+// (It takes the three lists that it touches, not a `&mut ListsMut`: it leaves the other two alone, and says so by not having them.)
 pub fn seal_bag(
     held: &[u64],
     p: usize,
@@ -108,6 +107,7 @@ fn stamp(nodes: &mut [u64], node: usize, e: Epoch, k: usize)
 
 // Frees every item of a node's bag, first to last, for `n` participants: a token goes to the next place of `freed`, from its front, and a
 // node or a slot is free again. The bag is then empty. Returns the number of tokens.
+// (It takes the three lists that it touches, not a `&mut ListsMut`: it leaves the other two alone, and says so by not having them.)
 pub fn free_bag(
     globals: &mut [u64],
     n: usize,

@@ -1,28 +1,26 @@
 -- The laws of free bits that stand in a list: what a written bit changes, and what it leaves; and that a word and its bits are the same
 -- thing said twice. A crate above cites these and leaves `marked` shut. Assumes nothing.
-use mathlib.Core.Path.{◌≡◌, refl, ap, ◌∙◌, fun_ext}
-use mathlib.Core.Bool.{Bool, false, ◌&&◌}
+use mathlib.Core.Path.{◌≡◌, refl, sym, ap, ◌∙◌, fun_ext}
+use mathlib.Core.Bool.{Bool, true, false, ◌&&◌}
 use mathlib.Core.List.{List}
 use Prim.Native.Nat.{ℕ, ◌+◌, ◌-◌, ◌*◌, ◌/◌, ◌%◌, ◌^◌, ◌≤◌, ◌<◌}
 use native.Mathlib.Omega.{arith}
 use lib.Bits.{bit_and}
 use lib.Dec.{ltb}
-use lib.ListN.{length, get_or, set, take, drop, length-set}
-use lib.Seq.{get_or-set_same, get_or-set_other, set-get_or, get_or-take, get_or-drop}
-use borrow.Author.Tests.{lt-ltb, le-ltb}
+use lib.ListN.{length, get_or, set, take, drop, length-set, length-drop}
+use lib.Seq.{get_or-set_same, get_or-set_other, set-get_or, get_or-take, get_or-drop, length-take-le}
+use borrow.Author.Tests.{ltb-true, lt-ltb, le-ltb}
 use Rattle.std.specs.Int.{bit_not, w64}
 use Rattle.std.specs.Int.RustNames.{bit_or}
-use Rattle.definition.specs.Base.{Tab, put}
+use Rattle.definition.specs.Base.{branch, Tab, put, count}
 use Rattle.definition.specs.Layout.{bit, bits, bits_word, global_words, slot_bits, node_bits}
 use Rattle.definition.specs.Ranges.{bit_words, bits_in}
-use Rattle.definition.proofs.Base.{put_same, put_other, same?}
-use Rattle.bits.specs.Bits.{words_at, within, written, marked, taken, given}
-use Rattle.bits.proofs.Table.{below?}
+use Rattle.definition.proofs.Base.{put_same, put_other, same?, all_at, count_none}
+use Rattle.bits.specs.Bits.{words_at, words_of, bits_of, within, written, marked, taken, given}
+use Rattle.bits.proofs.Table.{below?, count-add}
 use Rattle.bits.proofs.Word.{bit_or-written, bit_and-written, written_same, bit-written, number, number_ext, bit-number, number-bits, number-lt}
 
--- ---- the words from `at` on, as a slice
-
--- word j of k of them
+-- word j of the k words from `at` on
 pub slice_word : (g : List ℕ) (at k j : ℕ) → j < k → get_or (take (at + k - at) (drop at g)) j 0 ≡ get_or g (at + j) 0
 slice_word g at k j l = get_or-take (at + k - at) (drop at g) j 0 (omega arith) ∙ get_or-drop at g j 0
 
@@ -48,6 +46,57 @@ bits_same k v w h = fun_ext at
   where
     at : (i : ℕ) → (ltb (i / 64) k && bit (v (i / 64)) (i % 64)) ≡ (ltb (i / 64) k && bit (w (i / 64)) (i % 64))
     at i = below? (i / 64) k (λ l. rw (h (i / 64) l)) (λ l. rw (le-ltb (i / 64) k l))
+
+-- a set bit of words with none at n or beyond is below n
+pub inside : (k n : ℕ) (f : Tab Bool) → within k n f ≡ true → (i : ℕ) → i < 64 * k → f i ≡ true → i < n
+unfolding branch
+inside k n f h i l t =
+    let e : branch (f i) (ltb i n) true ≡ true = all_at (64 * k) (λ m. branch (f m) (ltb m n) true) i h l in
+    ltb-true i n (rw t at e)
+
+-- and one at n or beyond is clear
+outside : (k n : ℕ) (f : Tab Bool) → within k n f ≡ true → (i : ℕ) → i < 64 * k → n ≤ i → f i ≡ false
+outside k n f h i l z = by (f i) refl
+  where
+    by : (b : Bool) → f i ≡ b → f i ≡ false
+    by true e = absurd (let low = inside k n f h i l e in omega arith)
+    by false e = e
+
+-- the count of the words is that below n: what lies between the two is clear, whichever is more
+pub count_end : (k : ℕ) (words : Tab ℕ) (n : ℕ) → within k n (bits k words) ≡ true → count (64 * k) (bits k words) ≡ count n (bits k words)
+count_end k words n h = below? n (64 * k) (λ l. beyond (omega arith)) short
+  where
+    f : Tab Bool
+    f = bits k words
+
+    -- the clear bits from m on add nothing
+    padded : (m p : ℕ) → m ≤ p → ((i : ℕ) → m ≤ i → i < p → f i ≡ false) → count p f ≡ count m f
+    padded m p l clear =
+        let e : p ≡ m + (p - m) = omega arith in
+        ap (λ (x : ℕ). count x f) e ∙ count-add m (p - m) f
+        ∙ ap (λ (x : ℕ). count m f + x) (count_none (p - m) (λ i. f (m + i)) (λ i s. clear (m + i) (omega arith) (omega arith)))
+        ∙ omega arith
+
+    beyond : n ≤ 64 * k → count (64 * k) f ≡ count n f
+    beyond l = padded n (64 * k) l (λ i a z. outside k n f h i z a)
+
+    short : 64 * k ≤ n → count (64 * k) f ≡ count n f
+    short l = sym (padded (64 * k) n l (λ i a z. bits_out k words i a))
+
+-- ---- the words from `at` on, as a slice: what a crate above knows when it lends them alone
+
+module _ (g : List ℕ) (at k : ℕ) (fits : at + k ≤ length g) where
+  -- there are k of them
+  pub length_slice : length (take (at + k - at) (drop at g)) ≡ k
+  length_slice = length-take-le (at + k - at) (drop at g) (simp length-drop (omega arith)) ∙ omega arith
+
+  -- their bits are those in the list
+  pub bits_slice : bits_of (take (at + k - at) (drop at g)) ≡ bits k (words_at g at)
+  bits_slice = rw length_slice (bits_same k (words_of (take (at + k - at) (drop at g))) (words_at g at) (slice_word g at k))
+
+-- whether one is set at n or beyond, of words whose number and bits are known
+pub within_words : (ws : List ℕ) (k n : ℕ) (f : Tab Bool) → length ws ≡ k → bits_of ws ≡ f → within (length ws) n (bits_of ws) ≡ within k n f
+within_words ws k n f e h = rw (h, e) refl
 
 -- ---- one bit written: `taken` and `given` are `marked` with false and with true
 
@@ -151,6 +200,17 @@ bit_words-has i n h = omega (arith, bit_words-enough n)
 pub bits_in_is : (N M n : ℕ) (f : Tab Bool) → bits_in N M n f ≡ within (bit_words n) n f
 unfolding bits_in
 bits_in_is N M n f = refl
+
+-- with none set beyond, as many of the bits are set as slots are free, and as nodes are
+pub slots_counted : (N : ℕ) (g : List ℕ) → within (bit_words N) N (slot_bits N g) ≡ true
+    → count (64 * bit_words N) (slot_bits N g) ≡ count N (slot_bits N g)
+unfolding slot_bits
+slots_counted N g h = count_end (bit_words N) (words_at g global_words) N h
+
+pub nodes_counted : (N M : ℕ) (g : List ℕ) → within (bit_words M) M (node_bits N M g) ≡ true
+    → count (64 * bit_words M) (node_bits N M g) ≡ count M (node_bits N M g)
+unfolding node_bits
+nodes_counted N M g h = count_end (bit_words M) (words_at g (global_words + bit_words N)) M h
 
 -- the words before the bits stay when one is written
 pub early_mark : (g : List ℕ) (at i : ℕ) (b : Bool) → global_words ≤ at → (j : ℕ) → j < global_words → get_or (marked g at i b) j 0 ≡ get_or g j 0

@@ -10,38 +10,23 @@ use lib.Count.{count_trailing_zeros, ones}
 use lib.Dec.{ltb, eqb}
 use lib.ListN.{length, get_or, take, drop, length-drop}
 use lib.Pow.{pow_pos}
-use lib.Seq.{get_or-take, get_or-drop, length-take-le}
-use borrow.Author.Tests.{ltb-true, lt-ltb, le-ltb, eq-eqb, ne_eqb, eqb-true, eqb-false}
+use lib.Seq.{get_or-drop, take-length}
+use borrow.Author.Tests.{lt-ltb, le-ltb, eq-eqb, ne_eqb, eqb-true, eqb-false}
 use Rattle.std.specs.List.{sum_by, list_all}
 use Rattle.std.proofs.lemmas.List.Sums.{sum_by_more}
 use Rattle.definition.specs.Base.{branch, Tab, sum, count, all, least}
 use Rattle.definition.specs.Layout.{bit, bits}
-use Rattle.definition.proofs.Base.{branch_same, all_at, all_intro, count_none}
-use Rattle.bits.specs.Bits.{words_at, within}
+use Rattle.definition.proofs.Base.{branch_same, all_at, all_intro}
+use Rattle.bits.specs.Bits.{words_of, bits_of, within}
 use Rattle.bits.proofs.Table.{below?, count_ext, count-add, all_ext, all_add, least_at}
 use Rattle.bits.proofs.Word.{bit_high, lowest_lt, lowest_set, lowest_below, count-bits, none_beyond}
-use Rattle.bits.proofs.Laws.{bits_at, bits_out}
+use Rattle.bits.proofs.Laws.{bits_at, inside}
 
 -- an index from 64j on is one of word j or later
 in_word : (k : ℕ) (words : Tab ℕ) (j i : ℕ) → j < k → 64 * j ≤ i → i < 64 * j + 64 → bits k words i ≡ bit (words j) (i - 64 * j)
 in_word k words j i h a z =
     let there : 64 * j + (i - 64 * j) ≡ i = omega arith in
     ap (bits k words) (sym there) ∙ bits_at k words j (i - 64 * j) h (omega arith)
-
--- a set bit of words with none at n or beyond is below n
-pub inside : (k n : ℕ) (f : Tab Bool) → within k n f ≡ true → (i : ℕ) → i < 64 * k → f i ≡ true → i < n
-unfolding branch
-inside k n f h i l t =
-    let e : branch (f i) (ltb i n) true ≡ true = all_at (64 * k) (λ m. branch (f m) (ltb m n) true) i h l in
-    ltb-true i n (rw t at e)
-
--- and one at n or beyond is clear
-pub outside : (k n : ℕ) (f : Tab Bool) → within k n f ≡ true → (i : ℕ) → i < 64 * k → n ≤ i → f i ≡ false
-outside k n f h i l z = by (f i) refl
-  where
-    by : (b : Bool) → f i ≡ b → f i ≡ false
-    by true e = absurd (let low = inside k n f h i l e in omega arith)
-    by false e = e
 
 module _ (k : ℕ) (words : Tab ℕ) (j : ℕ) (h : j < k) where
   -- `first_free` goes on: word j is 0
@@ -110,27 +95,6 @@ module _ (k : ℕ) (words : Tab ℕ) (j : ℕ) (h : j < k) where
       → within (j + 1) n (bits k words) ≡ false
   within_here fits n before ne = within-word fits n ∙ rw (before, ne_eqb (words j / 2 ^ (n - 64 * j)) 0 ne)
 
--- the count of the words is that below n: what lies between the two is clear, whichever is more
-pub count_end : (k : ℕ) (words : Tab ℕ) (n : ℕ) → within k n (bits k words) ≡ true → count (64 * k) (bits k words) ≡ count n (bits k words)
-count_end k words n h = below? n (64 * k) (λ l. beyond (omega arith)) short
-  where
-    f : Tab Bool
-    f = bits k words
-
-    -- the clear bits from m on add nothing
-    padded : (m p : ℕ) → m ≤ p → ((i : ℕ) → m ≤ i → i < p → f i ≡ false) → count p f ≡ count m f
-    padded m p l clear =
-        let e : p ≡ m + (p - m) = omega arith in
-        ap (λ (x : ℕ). count x f) e ∙ count-add m (p - m) f
-        ∙ ap (λ (x : ℕ). count m f + x) (count_none (p - m) (λ i. f (m + i)) (λ i s. clear (m + i) (omega arith) (omega arith)))
-        ∙ omega arith
-
-    beyond : n ≤ 64 * k → count (64 * k) f ≡ count n f
-    beyond l = padded n (64 * k) l (λ i a z. outside k n f h i z a)
-
-    short : 64 * k ≤ n → count (64 * k) f ≡ count n f
-    short l = sym (padded (64 * k) n l (λ i a z. bits_out k words i a))
-
 -- the words before that of n have no bit at n or beyond
 pub within-start : (n : ℕ) (f : Tab Bool) → within (n / 64) n f ≡ true
 unfolding branch
@@ -152,26 +116,18 @@ within_less j k n f l h =
 
 -- ---- what the chains of iterators give
 
--- the set bits of the first m of k words
-ones_counted : (g : List ℕ) (at k : ℕ) → at + k ≤ length g → ((j : ℕ) → get_or g j 0 < 2 ^ 64) → (m : ℕ) → m ≤ k
-    → sum_by ones (take m (drop at g)) ≡ count (64 * m) (bits k (words_at g at))
+-- the set bits of the first m words
+ones_counted : (ws : List ℕ) → ((j : ℕ) → get_or ws j 0 < 2 ^ 64) → (m : ℕ) → m ≤ length ws → sum_by ones (take m ws) ≡ count (64 * m) (bits_of ws)
 unfolding count sum
-ones_counted g at k le fits zero l = refl
-ones_counted g at k le fits (suc m) l =
-    let long : m < length (drop at g) = simp length-drop (omega arith) in
-    let word : ones (get_or (drop at g) m 0) ≡ ones (get_or g (at + m) 0) = ap ones (get_or-drop at g m 0) in
-    ap (λ (x : ℕ). sum_by ones (take x (drop at g))) (sym (add-one m)) ∙ sum_by_more ones (drop at g) m 0 long
-    ∙ rw (word, ones_counted g at k le fits m (omega arith))
-    (count-word k (words_at g at) m (omega arith) (fits (at + m))
-    ∙ ap (λ (x : ℕ). count (64 * x) (bits k (words_at g at))) (add-one m))
+ones_counted ws fits zero l = refl
+ones_counted ws fits (suc m) l =
+    ap (λ (x : ℕ). sum_by ones (take x ws)) (sym (add-one m)) ∙ sum_by_more ones ws m 0 l
+    ∙ rw (ones_counted ws fits m (omega arith))
+    (count-word (length ws) (words_of ws) m l (fits m) ∙ ap (λ (x : ℕ). count (64 * x) (bits_of ws)) (add-one m))
 
 -- `count_free`: those of all of them
-pub ones_count : (g : List ℕ) (at k n : ℕ) → at + k ≤ length g → ((j : ℕ) → get_or g j 0 < 2 ^ 64)
-    → within k n (bits k (words_at g at)) ≡ true
-    → sum_by ones (take (at + k - at) (drop at g)) ≡ count n (bits k (words_at g at))
-ones_count g at k n le fits h =
-    let e : at + k - at ≡ k = omega arith in
-    rw e (ones_counted g at k le fits k (omega arith) ∙ count_end k (words_at g at) n h)
+pub ones_count : (ws : List ℕ) → ((j : ℕ) → get_or ws j 0 < 2 ^ 64) → sum_by ones ws ≡ count (64 * length ws) (bits_of ws)
+ones_count ws fits = ap (sum_by ones) (sym (take-length ws)) ∙ ones_counted ws fits (length ws) (omega arith)
 
 -- `bits_in`: no word from j on has a bit exactly if each is 0, where n stands before them
 pub zeros : (k n : ℕ) (words : Tab ℕ) → ((i : ℕ) → i < k → words i < 2 ^ 64) → (xs : List ℕ) (j : ℕ) → j + length xs ≡ k
@@ -200,32 +156,30 @@ zeros k n words fits (x ∷ xs) j e same l before =
         let here = within_here k words j (omega arith) (fits j (omega arith)) n before one in
         rw z (sym (within_not (j + 1) k n (bits k words) (omega arith) here))
 
-module _ (g : List ℕ) (at k n : ℕ) (le : at + k ≤ length g) (fits : (j : ℕ) → get_or g j 0 < 2 ^ 64) where
+module _ (ws : List ℕ) (n : ℕ) (fits : (j : ℕ) → get_or ws j 0 < 2 ^ 64) where
   -- where n stands in no word, or beyond them, no bit is set there
-  pub within-short : k ≤ n / 64 → within k n (bits k (words_at g at)) ≡ true
-  within-short l = within_less k (n / 64) n (bits k (words_at g at)) l (within-start n (bits k (words_at g at)))
+  pub within-short : length ws ≤ n / 64 → within (length ws) n (bits_of ws) ≡ true
+  within-short l = within_less (length ws) (n / 64) n (bits_of ws) l (within-start n (bits_of ws))
 
-  module _ (l : n / 64 < k) where
+  module _ (l : n / 64 < length ws) where
     shift : n - 64 * (n / 64) ≡ n % 64
     shift = omega arith
 
     -- `bits_in`: one is where the word of n has one
-    pub within-first : (get_or g (at + n / 64) 0 / 2 ^ (n % 64) ≡ 0 → ⊥) → within k n (bits k (words_at g at)) ≡ false
+    pub within-first : (get_or ws (n / 64) 0 / 2 ^ (n % 64) ≡ 0 → ⊥) → within (length ws) n (bits_of ws) ≡ false
     within-first ne =
-        let set : words_at g at (n / 64) / 2 ^ (n - 64 * (n / 64)) ≡ 0 → ⊥ = rw shift ne in
-        let here = within_here k (words_at g at) (n / 64) l (fits (at + n / 64)) n (within-start n (bits k (words_at g at))) set in
-        within_not (n / 64 + 1) k n (bits k (words_at g at)) (omega arith) here
+        let set : words_of ws (n / 64) / 2 ^ (n - 64 * (n / 64)) ≡ 0 → ⊥ = rw shift ne in
+        let here = within_here (length ws) (words_of ws) (n / 64) l (fits (n / 64)) n (within-start n (bits_of ws)) set in
+        within_not (n / 64 + 1) (length ws) n (bits_of ws) (omega arith) here
 
     -- and where it has none, the words behind it tell
-    pub within-rest : get_or g (at + n / 64) 0 / 2 ^ (n % 64) ≡ 0
-        → list_all (λ w. eqb w 0) (take (at + k - (at + n / 64 + 1)) (drop (at + n / 64 + 1) g)) ≡ within k n (bits k (words_at g at))
+    pub within-rest : get_or ws (n / 64) 0 / 2 ^ (n % 64) ≡ 0 → list_all (λ w. eqb w 0) (take (length ws - (n / 64 + 1)) (drop (n / 64 + 1) ws))
+        ≡ within (length ws) n (bits_of ws)
     within-rest e =
-        let clear : words_at g at (n / 64) / 2 ^ (n - 64 * (n / 64)) ≡ 0 = rw shift e in
-        let later = within-later k (words_at g at) (n / 64) l (fits (at + n / 64)) n (within-start n (bits k (words_at g at))) clear in
-        let xs : List ℕ = take (at + k - (at + n / 64 + 1)) (drop (at + n / 64 + 1) g) in
-        let enough : at + k - (at + n / 64 + 1) ≤ length (drop (at + n / 64 + 1) g) = simp length-drop (omega arith) in
-        let long : length xs ≡ k - (n / 64 + 1) =
-        length-take-le (at + k - (at + n / 64 + 1)) (drop (at + n / 64 + 1) g) enough ∙ omega arith in
-        zeros k n (words_at g at) (λ i s. fits (at + i)) xs (n / 64 + 1) (omega arith)
-        (λ i s. get_or-take (at + k - (at + n / 64 + 1)) (drop (at + n / 64 + 1) g) i 0 (omega arith)
-        ∙ get_or-drop (at + n / 64 + 1) g i 0 ∙ ap (λ (x : ℕ). get_or g x 0) (omega arith)) (omega arith) later
+        let clear : words_of ws (n / 64) / 2 ^ (n - 64 * (n / 64)) ≡ 0 = rw shift e in
+        let later = within-later (length ws) (words_of ws) (n / 64) l (fits (n / 64)) n (within-start n (bits_of ws)) clear in
+        let long : length (drop (n / 64 + 1) ws) ≡ length ws - (n / 64 + 1) = length-drop (n / 64 + 1) ws in
+        let all = ap (λ (m : ℕ). take m (drop (n / 64 + 1) ws)) (sym long) ∙ take-length (drop (n / 64 + 1) ws) in
+        ap (list_all (λ w. eqb w 0)) all
+        ∙ zeros (length ws) n (words_of ws) (λ i s. fits i) (drop (n / 64 + 1) ws) (n / 64 + 1) (omega arith)
+        (λ i s. get_or-drop (n / 64 + 1) ws i 0) (omega arith) later

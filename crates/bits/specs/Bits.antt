@@ -1,11 +1,19 @@
 -- Free bits at the level of the list that holds them: which words they are, and the list with one bit written. What the bits mean is
 -- the definition's `bits`; proofs/Laws ties the two together. Assumes nothing.
-use Rattle.std.specs.Prelude.{Bool, true, false, List, ℕ, ◌+◌, ◌-◌, ◌*◌, ◌/◌, ◌%◌, ◌^◌, ltb, get_or, set}
+use Rattle.std.specs.Prelude.{Bool, true, false, List, ℕ, ◌+◌, ◌-◌, ◌*◌, ◌/◌, ◌%◌, ◌^◌, ltb, length, get_or, set}
 use Rattle.definition.specs.Base.{branch, Tab, all}
+use Rattle.definition.specs.Layout.{bits}
 
 -- the words of a list from `at` on
 abbrev pub words_at : List ℕ → ℕ → Tab ℕ
 words_at l at = λ j. get_or l (at + j) 0
+
+-- all words of a list, and the bits that they have
+abbrev pub words_of : List ℕ → Tab ℕ
+words_of l = λ j. get_or l j 0
+
+abbrev pub bits_of : List ℕ → Tab Bool
+bits_of l = bits (length l) (words_of l)
 
 -- whether none of the bits of k words is set at n or beyond: the definition's `bits_in`, where k is `bit_words n`
 abbrev pub within : ℕ → ℕ → Tab Bool → Bool

@@ -8,7 +8,6 @@ use lib.Dec.{eqb, ltb, leb}
 use lib.ListN.{get_or}
 use borrow.Author.Tests.{leb-false, ltb-false, eqb-true, eqb-false, eq-eqb}
 use Rattle.std.specs.Prelude.{Result, Ok, Err}
-use Rattle.std.specs.Result.{IfOk}
 use Rattle.definition.specs.Base.{branch, count, least}
 use Rattle.definition.specs.Bags.{max_objects, items}
 use Rattle.definition.specs.Calls.{lacks, count_full, token_above, held_already, needs}
@@ -279,10 +278,9 @@ passed N M l w =
       bags_within = held-within N M l w;
     }
 
--- of a check that refuses for what `damage_of` does
-pub passed_if : (N M : ℕ) (l : Lent) (r : Result Unit Refusal) → refused r ≡ damage_of N M l → IfOk r (λ u. Passed N M l)
-passed_if N M l (Ok u) e = passed N M l (damage_none N M l (sym e))
-passed_if N M l (Err r) e = tt
+-- where there is no refusal for damage
+pub passed_none : (N M : ℕ) (l : Lent) → damage_of N M l ≡ 0 → Passed N M l
+passed_none N M l e = passed N M l (damage_none N M l e)
 
 -- ---- the refusals, one check after another
 

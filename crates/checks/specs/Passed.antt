@@ -5,7 +5,10 @@ use Rattle.bits.specs.Bits.{within}
 use Rattle.definition.specs.Layout.{Lent, slot_bits, node_bits, tables_of}
 use Rattle.definition.specs.Public.{absent, the}
 use Rattle.definition.specs.Ranges.{bit_words}
+use Rattle.definition.specs.Tables.{Tables}
 use Rattle.definition.specs.declared.Participant.{Participant}
+use Rattle.lent.specs.Lists.{read}
+use Rattle.lent.specs.declared.Lists.{Lists}
 use Rattle.checks.specs.Refusals.{row}
 
 pub record Passed (N M : ℕ) (l : Lent) : Type 0 where
@@ -19,6 +22,10 @@ pub record Passed (N M : ℕ) (l : Lent) : Type 0 where
   pub slots_within : within (bit_words N) N (slot_bits N l.globals) ≡ true
   pub nodes_within : within (bit_words M) M (node_bits N M l.globals) ≡ true
   pub bags_within : (p : ℕ) → p < N → (row l.participants p).held ≤ 64
+
+-- the tables that lent lists hold
+abbrev pub tables : Lists → Tables
+tables l = tables_of l.n l.m (read l)
 
 -- refusal 3 is not given for participant p, which is o
 pub record Present (N M : ℕ) (l : Lent) (p : ℕ) (o : Participant) : Type 0 where

@@ -7,25 +7,25 @@
 // the answer (`refused-same` of proofs/Laws), and proofs/Laws says what a caller knows where none holds.
 #![tactic(auto)]
 
-ghost use Rattle.std.specs.Prelude.{◌≡◌, true, false, ℕ, ◌+◌, ◌*◌, ◌≤◌, ◌<◌, ltb, length, IfOk, MatchResult};
+ghost use Rattle.std.specs.Prelude.{◌≡◌, true, false, ℕ, ◌+◌, ◌*◌, ◌≤◌, ◌<◌, ltb, length, MatchResult};
 ghost use Rattle.definition.specs.Base.{count};
 ghost use Rattle.definition.specs.Calls.{lacks};
-ghost use Rattle.definition.specs.Layout.{slot_bits, node_bits, tables_of};
+ghost use Rattle.definition.specs.Layout.{slot_bits, node_bits};
 ghost use Rattle.definition.specs.Public.{absent, missing, twice};
 ghost use Rattle.definition.specs.Ranges.{bit_words};
 ghost use Rattle.lent.specs.Lists.{read};
 ghost use Rattle.refusals.specs.Numbers.{number, refused};
-ghost use Rattle.checks.specs.Passed.{Passed, Present};
+ghost use Rattle.checks.specs.Passed.{Passed, Present, tables};
 ghost use Rattle.checks.specs.Refusals.{damage_of, step_refusal, call_refusal, register_refusal};
 
 use bags::holds_token;
-use bits::{bit_words, count_free, node_bits_at, slot_bits_at};
+use bits::{count_free, node_bits, slot_bits};
 use definition::{Call, Participant};
 use flow::Bag;
 use flow::links::is_tagged;
 use internal::calls::{count_full, lacks, needs, token_above};
 use internal::places::{is_rest, takes_node};
-use lent::{ASIDE, GLOBAL_WORDS, Lists, PARTICIPANT_WORDS};
+use lent::{ASIDE, BAG_WORDS, GLOBAL_WORDS, Lists, PARTICIPANT_WORDS};
 use ranges::{in_range, sizes};
 use records::load;
 use refusals::{Refusal, refuse_if};
@@ -44,24 +44,6 @@ pub fn slot_free(globals: &[u64], n: usize, p: usize) -> bool
     (w >> (p % 64)) % 2 == 1
 }
 
-// Returns how many slots are free.
-#[tactic(auto, unfolding(definition::specs::Layout::global_words, definition::specs::Layout::slot_bits))]
-fn free_slots(l: Lists<'_>) -> u64
-    requires { Passed l.n l.m (read l) }
-    ensures { result ≡ count l.entry.n (slot_bits l.entry.n l.entry.globals.now) }
-{
-    count_free(l.globals, slot_bits_at(), bit_words(l.n), l.n)
-}
-
-// Returns how many nodes are free.
-#[tactic(auto, unfolding(definition::specs::Layout::global_words, definition::specs::Layout::node_bits))]
-fn free_nodes(l: Lists<'_>) -> u64
-    requires { Passed l.n l.m (read l) }
-    ensures { result ≡ count l.entry.m (node_bits l.entry.n l.entry.m l.entry.globals.now) }
-{
-    count_free(l.globals, node_bits_at(l.n), bit_words(l.m), l.m)
-}
-
 // Returns whether the free nodes minus those set aside are below the need. No sum is made, so none can wrap.
 fn no_node(free: u64, aside: u64, need: u64) -> bool
     ensures { result ≡ ltb free (aside + need) }
@@ -72,67 +54,103 @@ fn no_node(free: u64, aside: u64, need: u64) -> bool
     left < need
 }
 
-// Returns participant `p`, if it is there: its index is below `n`, its slot is not free, and it is not both deleted and at rest.
-#[tactic(auto, using(crate::proofs::Laws::absent_words))]
-fn present(l: Lists<'_>, p: usize) -> Result<Participant, Refusal>
-    requires { Passed l.n l.m (read l) }
-    ensures { MatchResult result
-        (λ o. Present l.entry.n l.entry.m (read l.entry) p o)
-        (λ r. (absent l.entry.n l.entry.m p (tables_of l.entry.n l.entry.m (read l.entry)) ≡ true) × (number r ≡ 3)) }
-{
-    if l.n <= p || slot_free(l.globals, l.n, p) {
-        return Err(Refusal::Gone);
-    }
-    let next = l.participants[p * PARTICIPANT_WORDS + 1];
-    let o = load(l.participants, p);
-    if is_tagged(next) && is_rest(o.place) {
-        return Err(Refusal::Gone);
-    }
-    Ok(o)
+// Lists that were looked at: their sizes are right, and every number in them is in range.
+#[derive(Clone, Copy)]
+pub struct Whole<'a> {
+    pub lists: Lists<'a>,
+    ghost passed: { Passed lists.n lists.m (read lists) },
 }
 
-// Returns whether a step of the participant must take a node, and finds none free, or none of its own set aside.
-#[tactic(auto, unfolding(definition::specs::Public::missing, definition::specs::Layout::tables_of))]
-fn lacks_node(l: Lists<'_>, p: usize, o: Participant) -> bool
-    requires passed { Passed l.n l.m (read l) }
-    requires present { Present l.n l.m (read l) p o }
-    ensures { result ≡ missing l.entry.n l.entry.m p (tables_of l.entry.n l.entry.m (read l.entry)) }
-{
-    takes_node(o.place) && (free_nodes(l) == 0 || o.share == 0)
+impl<'a> Whole<'a> {
+    // Looks at the lists: 2 for sizes, 1 for ranges.
+    #[tactic(auto, unfolding(crate::specs::Refusals::damage_of, definition::specs::Base::branch))]
+    pub fn of(lists: Lists<'a>) -> Result<Whole<'a>, Refusal>
+        ensures { MatchResult result
+            (λ w. (w.lists ≡ lists.entry) × (damage_of lists.entry.n lists.entry.m (read lists.entry) ≡ 0))
+            (λ r. number r ≡ damage_of lists.entry.n lists.entry.m (read lists.entry)) }
+    {
+        refuse_if(!sizes(lists), Refusal::Sizes)?;
+        refuse_if(!in_range(lists), Refusal::Damage)?;
+        Ok(Whole { lists })
+    }
+
+    // Returns how many slots are free.
+    #[tactic(auto, using(bits::proofs::Laws::slots_counted), unfolding(definition::specs::Layout::global_words))]
+    fn free_slots(self) -> u64
+        ensures { result ≡ count self.entry.lists.n (slot_bits self.entry.lists.n self.entry.lists.globals.now) }
+    {
+        count_free(slot_bits(self.lists.globals, self.lists.n))
+    }
+
+    // Returns how many nodes are free.
+    #[tactic(auto, using(bits::proofs::Laws::nodes_counted), unfolding(definition::specs::Layout::global_words))]
+    fn free_nodes(self) -> u64
+        ensures { result ≡ count self.entry.lists.m (node_bits self.entry.lists.n self.entry.lists.m self.entry.lists.globals.now) }
+    {
+        let l = self.lists;
+        count_free(node_bits(l.globals, l.n, l.m))
+    }
+
+    // Returns participant `p`, if it is there: its index is below `n`, its slot is not free, and it is not both deleted and at rest.
+    #[tactic(auto, using(crate::proofs::Laws::absent_words))]
+    fn present(self, p: usize) -> Result<Standing<'a>, Refusal>
+        ensures { MatchResult result
+            (λ s. (s.whole.lists ≡ self.entry.lists) × (s.p ≡ p))
+            (λ r. (absent self.entry.lists.n self.entry.lists.m p (tables self.entry.lists) ≡ true) × (number r ≡ 3)) }
+    {
+        let l = self.lists;
+        if l.n <= p || slot_free(l.globals, l.n, p) {
+            return Err(Refusal::Gone);
+        }
+        let next = l.participants[p * PARTICIPANT_WORDS + 1];
+        let o = load(l.participants, p);
+        if is_tagged(next) && is_rest(o.place) {
+            return Err(Refusal::Gone);
+        }
+        Ok(Standing { whole: self, p, o })
+    }
 }
 
-// Returns whether a call would retire a token that the participant's bag has already. For any other call the bag is not read.
-fn held_already(l: Lists<'_>, p: usize, o: Participant, c: Call) -> bool
-    requires passed { Passed l.n l.m (read l) }
-    requires present { Present l.n l.m (read l) p o }
-    ensures { result ≡ twice p c (tables_of l.entry.n l.entry.m (read l.entry)) }
-{
-    if let Call::Defer(token) = c {
-        holds_token(l.held, p, o.held as usize, token)
-    } else {
-        false
+// A participant that is there: `o` is participant `p` of whole lists. Made by `Whole::present` alone.
+#[derive(Clone, Copy)]
+struct Standing<'a> {
+    whole: Whole<'a>,
+    p: usize,
+    o: Participant,
+    ghost present: { Present whole.lists.n whole.lists.m (read whole.lists) p o },
+}
+
+impl Standing<'_> {
+    // Returns whether a step of the participant must take a node, and finds none free, or none of its own set aside.
+    #[tactic(auto, unfolding(definition::specs::Public::missing, definition::specs::Layout::tables_of))]
+    fn lacks_node(self) -> bool
+        ensures { result ≡ missing self.entry.whole.lists.n self.entry.whole.lists.m self.entry.p (tables self.entry.whole.lists) }
+    {
+        takes_node(self.o.place) && (self.whole.free_nodes() == 0 || self.o.share == 0)
+    }
+
+    // Returns whether a call would retire a token that the participant's bag has already. For any other call the bag is not read.
+    fn held_already(self, c: Call) -> bool
+        ensures { result ≡ twice self.entry.p c (tables self.entry.whole.lists) }
+    {
+        if let Call::Defer(token) = c {
+            let at = self.p * BAG_WORDS;
+            holds_token(&self.whole.lists.held[at..at + self.o.held as usize], token)
+        } else {
+            false
+        }
     }
 }
 
 // ---- the checks
-
-// Checks what every call is refused for first: 2 for sizes, 1 for ranges.
-#[tactic(auto, unfolding(crate::specs::Refusals::damage_of, definition::specs::Base::branch))]
-pub fn damage(l: Lists<'_>) -> Result<(), Refusal>
-    ensures number { refused result ≡ damage_of l.entry.n l.entry.m (read l.entry) }
-    ensures passed { IfOk result (λ u. Passed l.entry.n l.entry.m (read l.entry)) }
-{
-    refuse_if(!sizes(l), Refusal::Sizes)?;
-    refuse_if(!in_range(l), Refusal::Damage)
-}
 
 // Checks a registration: 2, 1, 10.
 #[tactic(auto, using(crate::proofs::Laws::register_numbers), unfolding(definition::specs::Base::branch))]
 pub fn check_register(l: Lists<'_>) -> Result<(), Refusal>
     ensures { refused result ≡ register_refusal l.entry.n l.entry.m (read l.entry) }
 {
-    damage(l)?;
-    refuse_if(free_slots(l) == 0, Refusal::NoSlot)
+    let whole = Whole::of(l)?;
+    refuse_if(whole.free_slots() == 0, Refusal::NoSlot)
 }
 
 // Checks a call on participant `p`: 2, 1, 3, 4, 7 or 6, 8, 9, 16, 11.
@@ -140,15 +158,16 @@ pub fn check_register(l: Lists<'_>) -> Result<(), Refusal>
 pub fn check_call(l: Lists<'_>, p: usize, c: Call) -> Result<(), Refusal>
     ensures { refused result ≡ call_refusal l.entry.n l.entry.m (read l.entry) p c }
 {
-    damage(l)?;
-    let o = present(l, p)?;
+    let whole = Whole::of(l)?;
+    let standing = whole.present(p)?;
+    let o = standing.o;
     refuse_if(!is_rest(o.place), Refusal::Busy)?;
     lacks(c, o)?;
     refuse_if(count_full(c, o), Refusal::CountFull)?;
     refuse_if(token_above(c), Refusal::TokenAbove)?;
-    refuse_if(held_already(l, p, o, c), Refusal::HeldAlready)?;
+    refuse_if(standing.held_already(c), Refusal::HeldAlready)?;
     let need = needs(l.n as u64, c, o);
-    let short = no_node(free_nodes(l), l.globals[ASIDE], need);
+    let short = no_node(whole.free_nodes(), l.globals[ASIDE], need);
     refuse_if(short, Refusal::NoNode)
 }
 
@@ -157,9 +176,9 @@ pub fn check_call(l: Lists<'_>, p: usize, c: Call) -> Result<(), Refusal>
 pub fn check_step(l: Lists<'_>, p: usize, places: usize) -> Result<(), Refusal>
     ensures { refused result ≡ step_refusal l.entry.n l.entry.m (read l.entry) places p }
 {
-    damage(l)?;
+    let whole = Whole::of(l)?;
     refuse_if(places < MAX_OBJECTS, Refusal::ListShort)?;
-    let o = present(l, p)?;
-    refuse_if(is_rest(o.place), Refusal::Idle)?;
-    refuse_if(lacks_node(l, p, o), Refusal::Damage)
+    let standing = whole.present(p)?;
+    refuse_if(is_rest(standing.o.place), Refusal::Idle)?;
+    refuse_if(standing.lacks_node(), Refusal::Damage)
 }

@@ -17,14 +17,14 @@ pub struct Slot(pub u64);
 #[derive(Clone, Copy)]
 pub struct Node(pub u64);
 
-// list.rs, `Shared<Entry>` without its tag.
+// list.rs, `Shared<Entry>` without its tag. No `Option<Slot>`: the rules of specs/List and Step and all that is proved of runs go by its cases.
 #[derive(Clone, Copy)]
 pub enum Ptr {
     Null,
     At(Slot),
 }
 
-// list.rs, `Iter::pred`: the link by which the iteration came to its current entry.
+// list.rs, `Iter::pred`: the link by which the iteration came to its current entry. No `Option<Slot>`: the head is a link as well.
 #[derive(Clone, Copy)]
 pub enum Pred {
     Head,
@@ -205,7 +205,8 @@ pub struct Participant {
     pub place: Place,
 }
 
-// A place as it stands in a table: its number, and what it carries, one meaning to a column; zero where it carries nothing.
+// A place as it stands in a table: its number, and what it carries, one meaning to a column; zero where it carries nothing. Words, no enums:
+// anything may stand in a table that is lent, and refusal 1 is about what should not (`code_in` of specs/Ranges).
 #[derive(Clone, Copy, PartialEq, Eq)]
 pub struct Code {
     pub number: u64,
@@ -256,7 +257,8 @@ pub enum Ask {
     FetchOr(Word),
 }
 
-// What comes back: the value read (0 for a store), and whether an exchange was done (true for the rest).
+// What comes back: the value read (0 for a store), and whether an exchange was done (true for the rest). No `Result`: a lost exchange has its
+// value as one that is done has, and most rules read it without asking (`follows` of specs/Rule).
 #[derive(Clone, Copy)]
 pub struct Seen {
     pub value: u64,
@@ -291,7 +293,7 @@ pub enum Work {
     Seal(Node, Epoch),
 }
 
-// Whether an operation goes on, or ends with a value.
+// Whether an operation goes on, or ends with a value. No `Option`: what goes on lacks nothing, and `answer_of` of specs/Step goes by the cases.
 #[derive(Clone, Copy)]
 pub enum End {
     GoesOn,
@@ -320,6 +322,7 @@ pub enum Call {
 
 // What a call or a step says back: done with a value (the slot for register; for a defer the places left in its participant's bag, document 02,
 // No. 9; else 0), or more, each with the number of tokens freed; or a refusal.
+// A refusal is document 01's number, as the definition's `refusal` gives it (specs/Public); crate `refusals` has its name.
 #[derive(Clone, Copy)]
 pub enum Answer {
     Done(u64, u64),
@@ -327,7 +330,7 @@ pub enum Answer {
     Refused(u64),
 }
 
-// One participant in a survey.
+// One participant in a survey. Its state is document 01's number, no enum: the list of reports is the caller's, in C too, where any word may stand.
 #[derive(Clone, Copy)]
 pub struct Report {
     pub state: u64,

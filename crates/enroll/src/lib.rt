@@ -13,7 +13,7 @@ ghost use Rattle.bits.specs.Bits.{taken};
 ghost use Rattle.lent.specs.Lists.{lent, Same};
 ghost use Rattle.enroll.specs.Enroll.{Free, Enrolls, Enrolled, free_slot};
 
-use bits::{bit_words, first_free, slot_bits_at, take};
+use bits::{first_free, slot_bits, slot_bits_at, take};
 use definition::{Answer, Counts, Participant, Place, RegisterAt, Slot, Word};
 use epoch::Epoch;
 use lent::ListsMut;
@@ -28,7 +28,7 @@ fn free_slot(globals: &[u64], n: usize) -> usize
     requires { Free n globals.now }
     ensures { result ≡ free_slot n globals.now }
 {
-    first_free(globals, slot_bits_at(), bit_words(n), n)
+    first_free(slot_bits(globals, n), n)
 }
 
 // Takes slot `p`: it is no longer free. Lent the one list, it can also say that each of it is still a word.

@@ -39,7 +39,7 @@ const CASES: usize = CHANGED + 3 * N * BAG_WORDS;
 // A moment of a run is looked at after so many records.
 const EVERY: usize = 6;
 
-// The lists, and the list for freed tokens.
+// The lists, and the list for freed tokens. Of its own: `Tables` of crates/player is for 32 participants and 128 nodes alone.
 #[derive(Drop)]
 struct Tables {
     globals: [u64; PARTICIPANTS],

@@ -3,7 +3,8 @@
 //
 // A place is where the code stands before one access: `.._asks` says which access it makes, `.._follows` what the code does once it has
 // seen the answer. Each promise cites the rule of the same name, whatever the rule has besides what the function is given. No `.._follows`
-// requires anything; an `.._asks` requires that the indices of which it makes pointers are such as a pointer can name.
+// requires anything; an `.._asks` requires that the indices of which it makes pointers are such as a pointer can name. Places that ask for the same
+// access have an `.._asks` each, as document 01 has it: "Each place names its access and its next place".
 #![tactic(auto)]
 
 pub mod calls; // calls.rt: what a call begins

@@ -56,7 +56,7 @@ pub struct ListsMut<'a> {
 }
 
 impl ListsMut<'_> {
-    // The same lists, to be read.
+    // The same lists, to be read: each is lent anew, field by field, since the two types have no field of one type but the sizes.
     pub fn read(&self) -> Lists<'_>
         ensures n { result.n ≡ self.now.n }
         ensures m { result.m ≡ self.now.m }

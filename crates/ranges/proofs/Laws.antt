@@ -18,11 +18,11 @@ use Rattle.definition.specs.Base.{Tab, all}
 use Rattle.definition.specs.Bags.{max_objects}
 use Rattle.definition.specs.Ranges.{within_limits, max_participants, max_nodes, bit_words, item_in, bag_in, record_in, bits_in, shared_in, in_range}
 use Rattle.definition.specs.Ranges.{entry_pointer_in, head_pointer_in, node_pointer_in, end_pointer_in}
-use Rattle.definition.specs.Layout.{Lent, cell, participant_words, node_words, global_words, record_at, sized, bits, slot_bits, node_bits}
+use Rattle.definition.specs.Layout.{Lent, cell, participant_words, node_words, global_words, record_at, sized, slot_bits, node_bits}
 use Rattle.definition.specs.Layout.{shared_from, bag_from, tables_of}
 use Rattle.definition.proofs.Base.{both, and_intro, all_at, all_intro}
 use Rattle.definition.proofs.Lists.{cell_in}
-use Rattle.bits.specs.Bits.{words_at, within}
+use Rattle.bits.specs.Bits.{within}
 use Rattle.bits.proofs.Table.{all_ext}
 use Rattle.ranges.specs.Rows.{participant_in, node_row_in, globals_in}
 
@@ -97,19 +97,19 @@ all_both n f g =
 
 -- the order of the code and the order of the definition: the list's head and the queue's ends; the total; the free bits; the columns of
 -- the participants; those of the nodes
-regroup : (a d s t e f g h i : Bool) → (a && d && s && t && (e && f && g) && (h && i)) ≡ (a && e && h && d && f && s && t && g && i)
+regroup : (a d s t e f g h i : Bool) → (a && d && (s && t) && (e && f && g) && (h && i)) ≡ (a && e && h && d && f && s && t && g && i)
 regroup a d s t e f g h i =
-    same_test (a && d && s && t && (e && f && g) && (h && i)) (a && e && h && d && f && s && t && g && i)
+    same_test (a && d && (s && t) && (e && f && g) && (h && i)) (a && e && h && d && f && s && t && g && i)
     (λ z.
-    let y = both (a && d && s && t && (e && f && g)) (h && i) z in
-    let x = both (a && d && s && t) (e && f && g) y.0 in
-    let w = both (a && d && s) t x.0 in
-    let v = both (a && d) s w.0 in
-    let u = both a d v.0 in
+    let y = both (a && d && (s && t) && (e && f && g)) (h && i) z in
+    let x = both (a && d && (s && t)) (e && f && g) y.0 in
+    let w = both (a && d) (s && t) x.0 in
+    let v = both s t w.1 in
+    let u = both a d w.0 in
     let g' = both (e && f) g x.1 in
     let f' = both e f g'.0 in
     let i' = both h i y.1 in
-    rw (u.0, u.1, v.1, w.1, f'.0, f'.1, g'.1, i'.0, i'.1))
+    rw (u.0, u.1, v.0, v.1, f'.0, f'.1, g'.1, i'.0, i'.1))
     (λ z.
     let y = both (a && e && h && d && f && s && t && g) i z in
     let x = both (a && e && h && d && f && s && t) g y.0 in
@@ -140,11 +140,10 @@ nodes-columns N M n q = all_both M (λ k. node_pointer_in N M (cell node_words n
 
 -- row by row, or column by column
 pub in_range-rows : (N M : ℕ) (l : Lent) → let g = l.globals in
-    (globals_in N M g && within (bit_words N) N (bits (bit_words N) (words_at g global_words))
-    && within (bit_words M) M (bits (bit_words M) (words_at g (global_words + bit_words N)))
+    (globals_in N M g && (within (bit_words N) N (slot_bits N g) && within (bit_words M) M (node_bits N M g))
     && all N (participant_in N M (get_or g 4 0) l.participants l.held) && all M (node_row_in N M l.nodes l.queued))
     ≡ in_range N M (tables_of N M l)
-unfolding in_range shared_in tables_of shared_from bag_from bits_in slot_bits node_bits globals_in
+unfolding in_range shared_in tables_of shared_from bag_from bits_in globals_in
 in_range-rows N M l =
     let g = l.globals in
     let p = l.participants in
@@ -152,8 +151,8 @@ in_range-rows N M l =
     (regroup
     (head_pointer_in N M (get_or g 1 0) && end_pointer_in N M (get_or g 2 0) && end_pointer_in N M (get_or g 3 0))
     (leb (get_or g 4 0) M)
-    (within (bit_words N) N (bits (bit_words N) (words_at g global_words)))
-    (within (bit_words M) M (bits (bit_words M) (words_at g (global_words + bit_words N))))
+    (within (bit_words N) N (slot_bits N g))
+    (within (bit_words M) M (node_bits N M g))
     (all N (λ i. entry_pointer_in N M (cell participant_words p i 1)))
     (all N (λ i. record_in N M (get_or g 4 0) (record_at (cell participant_words p i))))
     (all N (λ i. bag_in N M (record_at (cell participant_words p i)).held (cell max_objects l.held i)))

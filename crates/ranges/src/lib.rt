@@ -14,13 +14,14 @@ ghost use Rattle.definition.specs.Base.{all};
 ghost use Rattle.definition.specs.Bags.{max_objects};
 ghost use Rattle.definition.specs.Ranges.{slot_in, node_in, ptr_in, cursor_in, pops_in, then_in, register_in, walk_in, pop_in, push_in};
 ghost use Rattle.definition.specs.Ranges.{place_in, entry_pointer_in, head_pointer_in, node_pointer_in, end_pointer_in, item_in, bag_in};
-ghost use Rattle.definition.specs.Ranges.{within_limits, code_in, record_in, in_range};
+ghost use Rattle.definition.specs.Ranges.{within_limits, bit_words, code_in, record_in, in_range};
 ghost use Rattle.definition.specs.Codec.{place_of};
-ghost use Rattle.definition.specs.Layout.{cell, sized, tables_of};
+ghost use Rattle.definition.specs.Layout.{cell, sized, slot_bits, node_bits, tables_of};
+ghost use Rattle.bits.specs.Bits.{within};
 ghost use Rattle.lent.specs.Lists.{read};
 ghost use Rattle.ranges.specs.Rows.{participant_in, node_row_in, globals_in};
 
-use bits::{bit_words, bits_in, node_bits_at, slot_bits_at};
+use bits::{bit_words, bits_in, node_bits, node_bits_at, slot_bits};
 use definition::{
     Code, Cursor, Deferring, Node, Place, PopAt, Pops, Ptr, PushAt, Record, RegisterAt, Slot, Then,
     WalkAt,
@@ -318,6 +319,16 @@ fn globals_in(n: u64, m: u64, globals: &[u64]) -> bool
         && globals[ASIDE] <= m
 }
 
+// Returns whether no bit is set that stands for no slot or no node.
+#[tactic(auto, using(definition::proofs::Lists::sized_is), unfolding(definition::specs::Ranges::bit_words, definition::specs::Layout::global_words))]
+fn free_bits_in(l: Lists<'_>) -> bool
+    requires { sized l.n l.m (read l) ≡ true }
+    ensures { result ≡ (within (bit_words l.entry.n) l.entry.n (slot_bits l.entry.n l.entry.globals.now)
+        && within (bit_words l.entry.m) l.entry.m (node_bits l.entry.n l.entry.m l.entry.globals.now)) }
+{
+    bits_in(slot_bits(l.globals, l.n), l.n) && bits_in(node_bits(l.globals, l.n, l.m), l.m)
+}
+
 // Returns whether every number of the lists is in range: refusal 1 where not.
 #[tactic(auto, using(definition::proofs::Lists::sized_is), unfolding(definition::specs::Ranges::bit_words, definition::specs::Layout::global_words))]
 pub fn in_range(l: Lists<'_>) -> bool
@@ -326,8 +337,7 @@ pub fn in_range(l: Lists<'_>) -> bool
 {
     let aside = l.globals[ASIDE];
     globals_in(l.n as u64, l.m as u64, l.globals)
-        && bits_in(l.globals, slot_bits_at(), bit_words(l.n), l.n)
-        && bits_in(l.globals, node_bits_at(l.n), bit_words(l.m), l.m)
+        && free_bits_in(l)
         && participants_in(l, aside)
         && nodes_in(l)
 }

@@ -1,8 +1,8 @@
--- A survey: what the check finds, how many reports it grants and what it answers are together the definition's survey. Assumes nothing.
+-- A survey: what the check finds, what is filled and what is answered are together the definition's survey. Assumes nothing.
 use mathlib.Core.Path.{◌≡◌, refl}
 use mathlib.Core.Bool.{Bool, true, false, ◌&&◌, not}
 use mathlib.Core.List.{List, ◌++◌, append-nil}
-use Prim.Native.Nat.{ℕ, zero, suc, ◌-◌, ◌*◌, ◌≤◌, ◌<◌}
+use Prim.Native.Nat.{ℕ, zero, suc, ◌≤◌, ◌<◌}
 use native.Mathlib.Omega.{arith}
 use lib.Dec.{eqb}
 use lib.ListN.{length, get_or, drop, drop_of_length-le}
@@ -10,20 +10,20 @@ use borrow.Author.Tests.{eqb-true, eqb-false, eq-eqb}
 use Rattle.definition.specs.Base.{Tab, branch, listed}
 use Rattle.definition.specs.Layout.{Lent, sized, tables_of}
 use Rattle.definition.specs.Public.{damaged}
-use Rattle.definition.specs.Ranges.{within_limits, bit_words, in_range}
+use Rattle.definition.specs.Ranges.{within_limits, in_range}
 use Rattle.definition.specs.Survey.{report_of, survey_lent}
 use Rattle.definition.specs.declared.Answer.{Answer}
 use Rattle.definition.specs.declared.Report.{Report}
-use Rattle.definition.proofs.Lists.{sized_is}
-use Rattle.std.specs.Prelude.{Result, Ok, Err}
+use Rattle.std.specs.Prelude.{Result, Err}
+use Rattle.refusals.specs.Numbers.{number}
 use Rattle.refusals.specs.declared.Refusal.{Refusal}
+use Rattle.refusals.proofs.Numbers.{positive}
 use Rattle.checks.specs.Refusals.{damage_of}
 use Rattle.checks.proofs.Laws.{damage_none}
 use Rattle.survey.specs.Surveys.{tabulate, report_in, survey_refusal}
 use Rattle.survey.proofs.Laws.{report_in_lem}
 use Rattle.survey.proofs.Tab.{tab_at}
-use Rattle.reclaimer.specs.Outcomes.{surveyed_as, number_of, refused_as}
-use Rattle.reclaimer.proofs.Laws.{fine_is, refused_is}
+use Rattle.reclaimer.specs.Outcomes.{surveyed_as, refused_as}
 
 -- two tables that agree below n have the same first n entries
 listed_same : {A : Type 0} (n : ℕ) (f g : Tab A) → ((i : ℕ) → i < n → f i ≡ g i) → listed n f ≡ listed n g
@@ -62,33 +62,23 @@ module _ (N M : ℕ) (l : Lent) (before : List Report) where
       let w = damage_none N M l f.1 in
       rw (w.limits, w.lengths, eq-eqb (length before) N f.0, w.range)
 
-  module _ (c : Result Unit Refusal) (e : number_of c ≡ survey_refusal N M l (length before)) where
-    -- what is fine has its places, and is read from lists that are long enough
-    pub survey_fits : (u : Unit) → c ≡ Ok u → (N ≤ length before) × ((bit_words N ≤ length l.globals - 5) × (N * 21 ≤ length l.participants))
-    unfolding bit_words
-    survey_fits u is =
-        let f = fine_places (fine_is c u _ e is) in
-        let w = damage_none N M l f.1 in
-        let s = sized_is N M l w.lengths in
-        (omega arith, (rw s.globals (omega arith), rw s.participants (omega arith)))
+  -- what is refused is refused with its number, and the list stays
+  pub survey_refuses : {A : Type 0} (c : Result A Refusal) (x : Refusal) → number x ≡ survey_refusal N M l (length before)
+      → c ≡ Err x → (r : Answer) → r ≡ refused_as c → surveyed_as r before ≡ survey_lent N M l before
+  survey_refuses c x e is r a = rw (a, is) (says-refused (number x) e (positive x))
 
-    -- what is refused is refused with its number, and the list stays
-    pub survey_refuses : (x : Refusal) → c ≡ Err x → (r : Answer) → r ≡ refused_as c → surveyed_as r before ≡ survey_lent N M l before
-    survey_refuses x is r a = rw a (says-refused (number_of c) e (rw e (refused_is c x _ e is)))
-
-    -- what is fine is filled
-    pub survey_fills : (u : Unit) → c ≡ Ok u
-        → surveyed_as (Answer.Done 0 0) (tabulate (report_in l.globals l.participants) N ++ drop N before) ≡ survey_lent N M l before
-    unfolding listed
-    survey_fills u is =
-        let z = fine_is c u _ e is in
-        let f = fine_places z in
-        let h : length before ≤ N = omega arith in
-        rw (
-          drop_of_length-le before h,
-          append-nil,
-          listed_same N (report_in l.globals l.participants) (report_of (tables_of N M l)) (λ i lt. report_in_lem N M l i lt),
-        ) (says_fine z)
+  -- what is fine is filled
+  pub survey_fills : survey_refusal N M l (length before) ≡ 0
+      → surveyed_as (Answer.Done 0 0) (tabulate (report_in l.globals l.participants) N ++ drop N before) ≡ survey_lent N M l before
+  unfolding listed
+  survey_fills e =
+      let f = fine_places e in
+      let h : length before ≤ N = omega arith in
+      rw (
+        drop_of_length-le before h,
+        append-nil,
+        listed_same N (report_in l.globals l.participants) (report_of (tables_of N M l)) (λ i lt. report_in_lem N M l i lt),
+      ) (says_fine e)
 
   -- each report of a survey that is not refused
   pub survey_at : survey_refusal N M l (length before) ≡ 0 → (i : ℕ) (d : Report) → i < N → get_or (survey_lent N M l before).reports i d ≡ report_of (tables_of N M l) i

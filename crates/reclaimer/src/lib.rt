@@ -24,12 +24,13 @@ use refusals::Refusal;
 use step::take_step;
 use survey::{check_survey, fill_reports};
 
-// Returns what a check says as an answer: the number of its refusal.
-fn refused(checked: Result<(), Refusal>) -> Answer
+// Returns what a check says as an answer: the number of its refusal. It takes the whole answer, since `let .. else` opens that for the callers; of one
+// that is fine nothing asks, and it has the definition's number of no refusal.
+fn refused<T: Copy>(checked: Result<T, Refusal>) -> Answer
     ensures { result ≡ refused_as checked }
 {
     match checked {
-        Ok(()) => Answer::Refused(0),
+        Ok(_) => Answer::Refused(0),
         Err(refusal) => Answer::Refused(u64::from(refusal)),
     }
 }
@@ -40,7 +41,7 @@ pub fn start(l: &mut ListsMut<'_>) -> Answer
     ensures same { Same l.old l.new }
 {
     if !sizes(l.read()) {
-        return refused(Err(Refusal::Sizes));
+        return Answer::Refused(u64::from(Refusal::Sizes));
     }
     start::start(l);
     Answer::Done(0, 0)
@@ -69,6 +70,8 @@ pub fn call(l: &mut ListsMut<'_>, p: usize, c: Call) -> Answer
     };
     take_call(l, p, c)
 }
+
+// The seven by their names, as document 01 lists the calls; `call` is the seven in one.
 
 // internal.rs, `Local::acquire_handle`: one handle more.
 pub fn acquire(l: &mut ListsMut<'_>, p: usize) -> Answer
@@ -145,11 +148,10 @@ pub fn step(l: &mut ListsMut<'_>, p: usize, marked: bool, freed: &mut [u64]) -> 
 pub fn survey(l: Lists<'_>, reports: &mut [Report]) -> Answer
     ensures { surveyed_as result reports.new ≡ survey_lent l.entry.n l.entry.m (read l.entry) reports.old }
 {
-    let places = reports.len();
-    let checked = check_survey(l, places);
-    let Ok(()) = checked else {
+    let checked = check_survey(l, reports.len());
+    let Ok(whole) = checked else {
         return refused(checked);
     };
-    fill_reports(l, reports);
+    fill_reports(whole, reports);
     Answer::Done(0, 0)
 }

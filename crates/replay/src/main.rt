@@ -7,7 +7,7 @@
 // schedules, records and words it compared, and how many differ.
 #![tactic(auto)]
 
-ghost use Rattle.std.specs.Prelude.{◌+◌, ◌<◌, ◌≤◌, length, IfSome};
+ghost use Rattle.std.specs.Prelude.{◌≡◌, ◌+◌, ◌<◌, ◌≤◌, length, IfSome};
 
 use definition::Answer;
 use lent::{
@@ -61,7 +61,8 @@ impl Line {
         }
     }
 
-    // Reads a digit. A number that does not fit makes the line odd.
+    // Reads a digit. A number that does not fit makes the line odd, and so do the last six that would: what is printed does not change, so it
+    // is no `checked_mul`.
     fn digit(&mut self, d: u8)
         requires { d ≤ 9 }
     {
@@ -201,6 +202,9 @@ const NODES: usize = SLOTS + BLOCK * N;
 const BLOCK: usize = 128;
 
 const ITEMS: usize = 8;
+
+// How many words of a participant's row are compared: its two shared words, its counts, and how many items its bag has.
+const COUNTED: usize = 6;
 
 const CELLS: usize = NODES + BLOCK * M;
 
@@ -418,49 +422,42 @@ impl Replay {
         let mut seen = Seen::default();
         seen.row(&self.cells, 0, &self.tables.globals[..ASIDE]);
         for p in 0..self.sizes.n {
-            self.compare_slot(&mut seen, p);
+            let row = PARTICIPANT_WORDS * p;
+            let bag = BAG_WORDS * p;
+            self.compare_block(
+                &mut seen,
+                SLOTS + BLOCK * p,
+                taken(&self.tables.globals, SLOT_BITS, p),
+                &self.tables.participants[row..row + COUNTED],
+                &self.tables.held[bag..bag + BAG_WORDS],
+            );
         }
         for i in 0..self.sizes.m {
-            self.compare_node(&mut seen, i);
+            let row = NODE_WORDS * i;
+            let bag = BAG_WORDS * i;
+            self.compare_block(
+                &mut seen,
+                NODES + BLOCK * i,
+                taken(&self.tables.globals, NODE_BITS, i),
+                &self.tables.nodes[row..row + NODE_WORDS],
+                &self.tables.queued[bag..bag + BAG_WORDS],
+            );
         }
         seen
     }
 
-    // Compares a slot: whether it is taken, and where it is its words, its counts and its bag.
-    fn compare_slot(&self, seen: &mut Seen, p: usize)
-        requires { p < N }
+    // Compares a slot or a node, whose cells begin at `at`: whether it is taken, and where it is the words of its row, the last of which is how many
+    // items its bag has, and these.
+    fn compare_block(&self, seen: &mut Seen, at: usize, taken: u64, row: &[u64], bag: &[u64])
+        requires within { at + BLOCK ≤ CELLS }
+        requires row { length row.now < ITEMS }
+        requires bag { length bag.now ≡ BAG_WORDS }
     {
-        let at = SLOTS + BLOCK * p;
-        seen.word(
-            self.cells[at],
-            taken(&self.tables.globals, SLOT_BITS, p),
-            at,
-        );
+        seen.word(self.cells[at], taken, at);
         if self.cells[at] != 0 {
-            let row = PARTICIPANT_WORDS * p;
-            let bag = BAG_WORDS * p;
-            let k = min(self.cells[at + 6] as usize, BAG_WORDS);
-            seen.row(&self.cells, at + 1, &self.tables.participants[row..row + 6]);
-            seen.row(&self.cells, at + ITEMS, &self.tables.held[bag..bag + k]);
-        }
-    }
-
-    // Compares a node: whether it is taken, and where it is its next, its seal and its bag.
-    fn compare_node(&self, seen: &mut Seen, i: usize)
-        requires { i < M }
-    {
-        let at = NODES + BLOCK * i;
-        seen.word(
-            self.cells[at],
-            taken(&self.tables.globals, NODE_BITS, i),
-            at,
-        );
-        if self.cells[at] != 0 {
-            let row = NODE_WORDS * i;
-            let bag = BAG_WORDS * i;
-            let k = min(self.cells[at + 3] as usize, BAG_WORDS);
-            seen.row(&self.cells, at + 1, &self.tables.nodes[row..row + 3]);
-            seen.row(&self.cells, at + ITEMS, &self.tables.queued[bag..bag + k]);
+            let k = min(self.cells[at + row.len()] as usize, BAG_WORDS);
+            seen.row(&self.cells, at + 1, row);
+            seen.row(&self.cells, at + ITEMS, &bag[..k]);
         }
     }
 }

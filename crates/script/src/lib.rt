@@ -41,7 +41,8 @@ pub fn action_of(bytes: &[u8]) -> Option<Action>
     name(action, u64::from(participant), u64::from(token))
 }
 
-// Returns the action of that number, on that participant and with that token: document 01's nine, and 9, a marked step (document 02, No. 2).
+// Returns the action of that number, on that participant and with that token: document 01's nine, and 9, a marked step (document 02, No. 2). By number:
+// document 01 names the form.
 #[tactic(auto, unfolding(crate::specs::Script::action_for, definition::specs::Base::branch, definition::specs::Schedule::action_of))]
 fn name(action: u8, participant: u64, token: u64) -> Option<Action>
     ensures { result ≡ named action participant token }

@@ -9,7 +9,7 @@ use lib.ListN.{length}
 use Rattle.definition.specs.Base.{least}
 use Rattle.definition.specs.Links.{index}
 use Rattle.definition.specs.Codec.{participant_of}
-use Rattle.definition.specs.Layout.{Lent, cell, global_words, participant_words, record_at, bits, tables_of}
+use Rattle.definition.specs.Layout.{Lent, cell, global_words, participant_words, record_at, node_bits, tables_of}
 use Rattle.definition.specs.Ranges.{bit_words}
 use Rattle.definition.specs.Rule.{asks, follows}
 use Rattle.definition.specs.Internal.{rule}
@@ -21,24 +21,22 @@ use Rattle.definition.specs.declared.Ask.{Ask}
 use Rattle.definition.specs.declared.Seen.{Seen}
 use Rattle.definition.specs.declared.After.{After}
 use Rattle.definition.specs.declared.Answer.{Answer}
-use Rattle.bits.specs.Bits.{words_at, within}
+use Rattle.bits.specs.Bits.{bits_of, within}
 use Rattle.bags.specs.Bags.{bag_seal}
 use Rattle.internal.specs.Fits.{PlaceFits}
 use Rattle.words.specs.Words.{named, word_in, Made}
 use Rattle.words.proofs.Laws.{length-left-nodes, comes_to, comes_in, made-left}
 use Rattle.follow.specs.Follow.{Follows, Followed}
 use Rattle.step.specs.Steps.{Steps, Leaves}
-use Rattle.step.proofs.Laws.{own, ask, after, left, size, asked_in, look_for, own_loaded, place_ok, ask_is, after_is, carries, step_is}
+use Rattle.step.proofs.Laws.{own, ask, after, left, size, asked_in, words_there, look_for, own_loaded, place_ok, ask_is, after_is, carries, step_is}
 use Rattle.step.proofs.Carry.{may_carry, carried-leaves}
 
 -- what the callees promise: the lists are l, and l₁ after the access; where they are only read they are r and r₁
-pub record Chain (N M p : ℕ) (marked : Bool) (l r : Lent) (o : Participant) (at k free : ℕ) (x : Ask) (seen : Seen) (l₁ r₁ : Lent)
+pub record Chain (N M p : ℕ) (marked : Bool) (l r : Lent) (o : Participant) (free : ℕ) (x : Ask) (seen : Seen) (l₁ r₁ : Lent)
     (seal : ℕ) (a : After) : Type 0 where
   pub read : r ≡ l
   pub loaded : o ≡ participant_of (record_at (cell participant_words r.participants p))
-  pub from : at ≡ global_words + bit_words N
-  pub words : k ≡ bit_words M
-  pub first : free ≡ least M (bits k (words_at r.globals at))
+  pub first : free ≡ least M (node_bits N M r.globals)
   pub asked : (y : Node) (z : Node → ℕ) → x ≡ asks (rule (slot p) y z o o.place)
   pub made : Made marked x l seen l₁
   pub again : r₁ ≡ l₁
@@ -50,9 +48,12 @@ module _ (N M p : ℕ) (l : Lent) (f : List ℕ) (s : Steps N M p l f) (r : Lent
   pub row_ok : p * 21 + 21 ≤ length r.participants
   row_ok = let below = s.below in rw (e, (size N M p l s.sound s.below s.present).participants) (omega arith)
 
-  pub bits_ok : (at k : ℕ) → at ≡ global_words + bit_words N → k ≡ bit_words M
-      → ((at + k ≤ length r.globals) × (k ≤ 64)) × (within k M (bits k (words_at r.globals at)) ≡ true)
-  bits_ok at k from words = rw e (look_for N M p l s.sound s.below s.present at k from words)
+  pub words_ok : global_words + bit_words N + bit_words M ≤ length r.globals
+  words_ok = rw e (words_there N M p l s.sound s.below s.present)
+
+  pub bits_ok : (ws : List ℕ) → length ws ≡ bit_words M → bits_of ws ≡ node_bits N M r.globals
+      → (length ws ≤ 64) × (within (length ws) M (bits_of ws) ≡ true)
+  bits_ok ws few is = look_for N M p l s.sound s.below s.present ws few (rw e at is)
 
   module _ (o : Participant) (loaded : o ≡ participant_of (record_at (cell participant_words r.participants p))) where
     loaded_so : o ≡ participant_of (record_at (cell participant_words l.participants p))
@@ -71,8 +72,8 @@ module _ (N M p : ℕ) (l : Lent) (f : List ℕ) (s : Steps N M p l f) (r : Lent
           ∙ length-left-nodes (comes_to marked x) l (comes_in marked x l perform_ok)
           ∙ (size N M p l s.sound s.below s.present).nodes
 
-module _ (N M p : ℕ) (marked : Bool) (l r : Lent) (f : List ℕ) (s : Steps N M p l f) (o : Participant) (at k free : ℕ) (x : Ask) (seen : Seen) (l₁ r₁ : Lent)
-    (seal : ℕ) (a : After) (c : Chain N M p marked l r o at k free x seen l₁ r₁ seal a) where
+module _ (N M p : ℕ) (marked : Bool) (l r : Lent) (f : List ℕ) (s : Steps N M p l f) (o : Participant) (free : ℕ) (x : Ask) (seen : Seen) (l₁ r₁ : Lent)
+    (seal : ℕ) (a : After) (c : Chain N M p marked l r o free x seen l₁ r₁ seal a) where
   loaded_is : o ≡ participant_of (record_at (cell participant_words l.participants p))
   loaded_is = loaded_so N M p l f s r c.read o c.loaded
 
@@ -89,7 +90,7 @@ module _ (N M p : ℕ) (marked : Bool) (l r : Lent) (f : List ℕ) (s : Steps N 
   left_is = made-left marked _ l seen l₁ made_so
 
   a_is : a ≡ after N M p l s.sound s.below s.present marked
-  a_is = after_is N M p l s.sound s.below s.present o loaded_is marked at k free seen seal a c.from c.words (rw c.read at c.first) made_so.seen
+  a_is = after_is N M p l s.sound s.below s.present o loaded_is marked free seen seal a (rw c.read at c.first) made_so.seen
       (c.sealed ∙ ap (λ (l : Lent). bag_seal l.nodes (index seen.value)) (c.again ∙ left_is)) c.then
 
   -- `follow` may be called

@@ -2,6 +2,7 @@
 -- computes are the definition's. Assumes nothing.
 use mathlib.Core.Path.{◌≡◌, refl, ap, sym, ◌∙◌}
 use mathlib.Core.Bool.{Bool, true, false, false≢true}
+use mathlib.Core.List.{List}
 use Prim.Native.Nat.{ℕ, ◌+◌, ◌≤◌, ◌<◌}
 use native.Mathlib.Omega.{arith}
 use native.Mathlib.Nat.{le_refl}
@@ -13,7 +14,7 @@ use Rattle.definition.specs.Bags.{SealedBag}
 use Rattle.definition.specs.Links.{index, node_at}
 use Rattle.definition.specs.Codec.{participant_of}
 use Rattle.definition.specs.Tables.{Tables, with_shared}
-use Rattle.definition.specs.Layout.{Lent, cell, global_words, participant_words, record_at, bag_from, bits, node_bits, tables_of}
+use Rattle.definition.specs.Layout.{Lent, cell, global_words, participant_words, record_at, bag_from, node_bits, tables_of}
 use Rattle.definition.specs.Ranges.{bit_words, bag_in, place_in}
 use Rattle.definition.specs.Rule.{Rule, asks, follows, sees, leaves, fails, missed}
 use Rattle.definition.specs.Internal.{rule}
@@ -30,8 +31,8 @@ use Rattle.definition.proofs.Base.{count_least}
 use Rattle.definition.proofs.Lists.{Sized, sized_is}
 use Rattle.definition.proofs.Within.{PlaceIn, place_in_lem, AskIn, asks_in, WorkIn, AfterIn, follows_in}
 use Rattle.definition.proofs.Kept.{ask_word, PlacedIn, place-kept, ShareLe, share_falls}
-use Rattle.bits.specs.Bits.{words_at, within}
-use Rattle.bits.proofs.Laws.{bits_in_is}
+use Rattle.bits.specs.Bits.{bits_of, within}
+use Rattle.bits.proofs.Laws.{bits_in_is, within_words}
 use Rattle.bags.specs.Bags.{bag_seal}
 use Rattle.bags.proofs.Nodes.{bag-epoch}
 use Rattle.internal.specs.Fits.{PlaceFits}
@@ -207,13 +208,18 @@ module _ (N M p : ℕ) (l : Lent) (s : Sound N M l) (hp : p < N) (present : miss
 
   -- ---- the values that the code computes are these
 
-  -- where the free node is looked for
-  pub look_for : (at k : ℕ) → at ≡ global_words + bit_words N → k ≡ bit_words M
-      → ((at + k ≤ length l.globals) × (k ≤ 64)) × (within k M (bits k (words_at l.globals at)) ≡ true)
-  unfolding global_words tables_of node_bits
-  look_for at k e f =
+  -- the free node is looked for in words that the list has
+  pub words_there : global_words + bit_words N + bit_words M ≤ length l.globals
+  unfolding global_words
+  words_there = rw size.globals (omega arith)
+
+  -- of which none has a bit that stands for no node
+  pub look_for : (ws : List ℕ) → length ws ≡ bit_words M → bits_of ws ≡ node_bits N M l.globals
+      → (length ws ≤ 64) × (within (length ws) M (bits_of ws) ≡ true)
+  unfolding tables_of
+  look_for ws few is =
       let m = small.1.1.1 in
-      rw (e, f) ((rw size.globals (omega arith), unfold bit_words in omega (arith, m)), sym (bits_in_is N M M tables.node_free) ∙ known.nodes)
+      (rw few (unfold bit_words in omega (arith, m)), within_words ws (bit_words M) M _ few is ∙ sym (bits_in_is N M M tables.node_free) ∙ known.nodes)
 
   module _ (o : Participant) (loaded : o ≡ participant_of (record_at (cell participant_words l.participants p))) where
     pub own_loaded : o ≡ own
@@ -232,18 +238,17 @@ module _ (N M p : ℕ) (l : Lent) (s : Sound N M l) (hp : p < N) (present : miss
         el ∙ sym (bag-epoch (left marked).nodes l.queued (index seen.value))
         ∙ ap (λ (b : Tab SealedBag). (b (index seen.value)).epoch) (kept-bags (effect marked) l (effect_in marked) l.queued)
 
-    free_is : (at k free : ℕ) → at ≡ global_words + bit_words N → k ≡ bit_words M → free ≡ least M (bits k (words_at l.globals at))
-        → free ≡ least M tables.node_free
-    unfolding tables_of node_bits
-    free_is at k free ea ek ef = ef ∙ rw (ea, ek) refl
+    free_is : (free : ℕ) → free ≡ least M (node_bits N M l.globals) → free ≡ least M tables.node_free
+    unfolding tables_of
+    free_is free ef = ef
 
     seen_is : (marked : Bool) (seen : Seen) → seen ≡ seen_by marked ask (shared_of l) → seen ≡ seen_by marked ask tables.shared
     unfolding tables_of
     seen_is marked seen es = es
 
-    pub after_is : (marked : Bool) (at k free : ℕ) (seen : Seen) (seal : ℕ) (a : After) → at ≡ global_words + bit_words N → k ≡ bit_words M
-        → free ≡ least M (bits k (words_at l.globals at)) → seen ≡ seen_by marked ask (shared_of l)
-        → seal ≡ bag_seal (left marked).nodes (index seen.value) → a ≡ follows (rule (slot p) (node free) (λ n. seal) o o.place) seen → a ≡ after marked
-    after_is marked at k free seen seal a ea ek ef es el e =
-        e ∙ rw (own_loaded, free_is at k free ea ek ef, seal_is marked seen seal el) (sym (one_seal_at (slot p) spare sealed own own.place seen))
+    pub after_is : (marked : Bool) (free : ℕ) (seen : Seen) (seal : ℕ) (a : After) → free ≡ least M (node_bits N M l.globals)
+        → seen ≡ seen_by marked ask (shared_of l) → seal ≡ bag_seal (left marked).nodes (index seen.value)
+        → a ≡ follows (rule (slot p) (node free) (λ n. seal) o o.place) seen → a ≡ after marked
+    after_is marked free seen seal a ef es el e =
+        e ∙ rw (own_loaded, free_is free ef, seal_is marked seen seal el) (sym (one_seal_at (slot p) spare sealed own own.place seen))
         ∙ ap (follows the_rule) (seen_is marked seen es)

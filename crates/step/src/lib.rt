@@ -12,7 +12,7 @@ ghost use Rattle.lent.specs.Lists.{lent, Same};
 ghost use Rattle.bags.specs.Bags.{bag_seal};
 ghost use Rattle.step.specs.Steps.{Steps, Leaves};
 
-use bits::{bit_words, first_free, node_bits_at};
+use bits::{first_free, node_bits};
 use definition::{Answer, Node, Slot};
 use flow::links::node_at;
 use follow::follow;
@@ -47,7 +47,7 @@ pub fn take_step(l: &mut ListsMut<'_>, p: usize, marked: bool, freed: &mut [u64]
     let (n, m) = (l.n, l.m);
     let lists = l.read();
     let o = load(lists.participants, p);
-    let spare = first_free(lists.globals, node_bits_at(n), bit_words(m), m);
+    let spare = first_free(node_bits(lists.globals, n, m), m);
     let me = Slot(p as u64);
     let ask = asks_at(me, o);
     let seen = perform(l, ask, marked);

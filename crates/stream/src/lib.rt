@@ -33,7 +33,7 @@ pub fn for_each_block<R: Read, F: FnMut(&[u8]) -> io::Result<()>>(
 }
 
 // Reads until `buf` is full or the input ends, and returns how many bytes it put at the start of `buf`: fewer than `buf` has only where the
-// input ended. Fails where a read does, and what was read before that is lost.
+// input ended. Fails where a read does, and what was read before that is lost. Its loop is no `for`: it goes on by what each read gave.
 pub fn read_full<R: Read>(reader: &mut R, buf: &mut [u8]) -> io::Result<usize>
     ensures in_bounds { IfOk result (λ n. IsPrefixLen n buf.new) }
     ensures bytes { IfOk result (λ n. Consumes (R.remaining reader.old) (R.remaining reader.new) (take n buf.new)) }

@@ -4,14 +4,13 @@
 // them, one after another. The public call, which joins the check and the reports, is in `reclaimer`.
 #![tactic(auto)]
 
-ghost use Rattle.std.specs.Prelude.{◌≡◌, ◌++◌, ◌+◌, ◌-◌, ◌*◌, ◌/◌, ◌≤◌, ◌<◌, length, drop};
+ghost use Rattle.std.specs.Prelude.{◌≡◌, ◌++◌, ◌+◌, ◌*◌, ◌/◌, ◌≤◌, ◌<◌, length, drop, MatchResult};
 ghost use Rattle.definition.specs.Base.{branch};
-ghost use Rattle.definition.specs.Ranges.{bit_words};
 ghost use Rattle.lent.specs.Lists.{read};
-ghost use Rattle.refusals.specs.Numbers.{refused};
+ghost use Rattle.refusals.specs.Numbers.{number};
 ghost use Rattle.survey.specs.Surveys.{blank, tabulate, report_in, survey_refusal};
 
-use checks::{damage, slot_free};
+use checks::{Whole, slot_free};
 use definition::Report;
 use epoch::Epoch;
 use flow::links::is_tagged;
@@ -85,11 +84,12 @@ pub fn report_of(globals: &[u64], participants: &[u64], p: usize) -> Report
 }
 
 // Fills the first `n` places of the list with the reports of the first `n` participants.
-#[tactic(auto, unfolding(definition::specs::Ranges::bit_words))]
-pub fn fill_reports(l: Lists<'_>, list: &mut [Report])
-    requires { (l.n ≤ length list.old) × ((bit_words l.n ≤ length l.globals.now - 5) × (l.n * 21 ≤ length l.participants.now)) }
-    ensures { list.new ≡ tabulate (report_in l.entry.globals.now l.entry.participants.now) l.entry.n ++ drop l.entry.n list.old }
+pub fn fill_reports(whole: Whole<'_>, list: &mut [Report])
+    requires { whole.lists.n ≤ length list.old }
+    ensures { list.new ≡ tabulate (report_in whole.entry.lists.globals.now whole.entry.lists.participants.now) whole.entry.lists.n
+        ++ drop whole.entry.lists.n list.old }
 {
+    let l = whole.lists;
     for p in 0..l.n {
         list[p] = report_of(l.globals, l.participants, p);
     }
@@ -97,9 +97,11 @@ pub fn fill_reports(l: Lists<'_>, list: &mut [Report])
 
 // Checks a survey into a list of so many places: 2, also where these are not `n`, then 1.
 #[tactic(auto, unfolding(crate::specs::Surveys::survey_refusal, definition::specs::Base::branch))]
-pub fn check_survey(l: Lists<'_>, places: usize) -> Result<(), Refusal>
-    ensures { refused result ≡ survey_refusal l.entry.n l.entry.m (read l.entry) places }
+pub fn check_survey(l: Lists<'_>, places: usize) -> Result<Whole<'_>, Refusal>
+    ensures { MatchResult result
+        (λ w. ((w.lists ≡ l.entry) × (places ≡ l.entry.n)) × (survey_refusal l.entry.n l.entry.m (read l.entry) places ≡ 0))
+        (λ r. number r ≡ survey_refusal l.entry.n l.entry.m (read l.entry) places) }
 {
     refuse_if(places != l.n, Refusal::Sizes)?;
-    damage(l)
+    Whole::of(l)
 }

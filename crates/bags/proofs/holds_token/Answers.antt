@@ -1,7 +1,6 @@
 -- The token is in the bag where one of the words stands for it.
 use mathlib.Core.Path.{◌∙◌}
 use mathlib.Core.List.{[], ◌∷◌}
-use Prim.Native.Nat.{◌*◌}
 use borrow.Author.Rules.{rules}
 use Rattle.std.proofs.lemmas.Iterator.{YieldsList-from_slice}
 use Rattle.std.proofs.lemmas.Iterator.Search.{any_from_yields_List}
@@ -15,4 +14,4 @@ returns c =
     let a = c.args in
     any_from_yields_List (λ w. among a.token (tokens (item_of w ∷ []))) _ _ _ c.any.ensures.ran
     (YieldsList-from_slice _ c.iter.ensures.rest) (λ x b q k. search rules)
-    ∙ held_all a.token a.held.now (a.p * 64) a.k c.requires
+    ∙ held_all a.token a.bag.now

@@ -9,15 +9,15 @@ use Rattle.std.proofs.lemmas.Iterator.Search.{all_from_yields_List}
 use Rattle.bits.proofs.Loops.{within-short, within-first, within-rest}
 use Rattle.bits.proofs.bits_in.Goals as goal
 
-pub returns-then-j-k : goal.returns-then-j-k
-returns-then-j-k c = search (rules, within-short)
+pub returns-then-j-words : goal.returns-then-j-words
+returns-then-j-words c = search (rules, within-short)
 
-pub returns-then-globals-at-eq0 : goal.returns-then-globals-at-eq0
-returns-then-globals-at-eq0 c =
+pub returns-then-words-j-eq0 : goal.returns-then-words-j-eq0
+returns-then-words-j-eq0 c =
     let a = c.args in
     all_from_yields_List (λ w. eqb w 0) _ _ _ c.all.ensures.ran
     (YieldsList-from_slice _ c.iter.ensures.rest) (λ x b q k. search (rules, tests))
-    ∙ within-rest a.globals.now a.at a.k a.n c.requires (λ j. (c.type_inv.globals j).fits) (omega arith) c.if-globals-at-eq0.true
+    ∙ within-rest a.words.now a.n (λ j. (c.type_inv.words j).fits) (omega arith) c.if-words-j-eq0.true
 
-pub returns-else-globals-at-eq0 : goal.returns-else-globals-at-eq0
-returns-else-globals-at-eq0 c = search (rules, tests, within-first)
+pub returns-else-words-j-eq0 : goal.returns-else-words-j-eq0
+returns-else-words-j-eq0 c = search (rules, tests, within-first)

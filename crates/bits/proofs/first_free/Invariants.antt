@@ -3,9 +3,8 @@
 use Prim.Native.Nat.{ℕ, ◌*◌, ◌<◌}
 use mathlib.Core.Path.{◌≡◌}
 use mathlib.Core.Bool.{false}
-use Rattle.definition.specs.Layout.{bits}
-use Rattle.bits.specs.Bits.{words_at}
+use Rattle.bits.specs.Bits.{bits_of}
 use Rattle.bits.proofs.first_free.Given as goal
 
 abbrev pub invariant-loop-j : goal.invariant-loop-j
-invariant-loop-j l = (i : ℕ) → i < 64 * l.j → bits l.k (words_at l.globals l.at) i ≡ false
+invariant-loop-j l = (i : ℕ) → i < 64 * l.j → bits_of l.words i ≡ false

@@ -1,6 +1,5 @@
 -- A predecessor is in range where it is so as a pointer.
-use Rattle.std.proofs.Common.{◌≡◌, ◌∙◌, sym, ap, true, false}
-use Rattle.definition.specs.Ranges.{pred_in, ptr_in, cursor_in}
+use Rattle.definition.specs.Ranges.{cursor_in}
 use Rattle.definition.proofs.Preds.{pred_range}
 use Rattle.ranges.proofs.cursor_in.Goals as goal
 

@@ -12,7 +12,7 @@ pub returns-then-not-sizes : goal.returns-then-not-sizes
 returns-then-not-sizes c =
     let r = c.read.ensures in
     let e = c.sizes.ensures ∙ read_as (λ n m l. within_limits n m && sized n m l) c.read.result c.args.l.now r.n r.m r.lists in
-    record { outcome = rw c.refused.ensures (start_refuses _ _ _ _ e (ap not c.if-not-sizes.true)); same = same_self _ }
+    record { outcome = rw c.from.ensures (start_refuses _ _ _ _ e (ap not c.if-not-sizes.true)); same = same_self _ }
 
 pub start-requires : goal.start-requires
 start-requires c =
