@@ -114,6 +114,14 @@ def places():
                 found["1 matches that list every case for a bool"].append((path, name))
             if re.search(r"\b(\w+): \1,", inside):
                 found["4 fields named twice, `x: x`"].append((path, name))
+        facts = collections.defaultdict(list)
+        for m in re.finditer(r"fn (\w+)[^{]*?((?:\n *requires [^\n]*\{(?:[^{}]|\{[^{}]*\})*\})+)", text):
+            for clause in re.findall(r"\{((?:[^{}]|\{[^{}]*\})*)\}", m.group(2)):
+                for fact in re.split(r" × ", re.sub(r"\.(now|old)\b", "", clause)):
+                    facts[" ".join(fact.replace("(", " ").replace(")", " ").split())].append(m.group(1))
+        for fact, names in sorted(facts.items()):
+            if len(names) >= 3:
+                found["5 facts in the `requires` of three functions or more"].extend((path, "%s: %s" % (fact, n)) for n in names)
         for name, value in re.findall(r"const (\w+): \w+ =\s*([^;]+);", text):
             constants[name].append((path, name))
         for m in re.finditer(r"^ *while ([^\n{]*)", text, re.M):

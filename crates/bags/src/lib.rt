@@ -16,7 +16,7 @@ ghost use Rattle.bags.specs.Bags.{stamped, bag_len, bag_items, filled, free_item
 use definition::{Item, Node, Slot};
 use epoch::Epoch;
 use flow::Bag;
-use lent::{BAG_WORDS, NODE_WORDS};
+use lent::{BAG_LEN, BAG_WORDS, NODE_WORDS};
 
 // Returns the word that stands for an item; it must be one.
 #[tactic(auto, unfolding(definition::specs::Bags::item_word))]
@@ -44,7 +44,8 @@ pub fn item_of(w: u64) -> Item
     }
 }
 
-// Puts an item at place `k` of participant `p`'s bag, which has room. Returns the places left after it. (`k` is a place of the row, not a length.)
+// Puts an item behind the `k` items of participant `p`'s bag, which has room. Returns the places left after it.
+// (It takes the list and not the bag's row, since it writes one word: lent the row, `settle` would have to show the rest unchanged, in two arms.)
 pub fn put_item(held: &mut [u64], p: usize, k: usize, item: Item) -> u64
     requires k_bound { k < 64 }
     requires k_in_bounds { (p * 64 + k < length held.old) × (item_word item < 2 ^ 64) }
@@ -124,9 +125,10 @@ pub fn free_bag(
         × ((nodes.new ≡ set nodes.old (node * 3 + 2) 0)
         × (freed.new ≡ filled (tokens (bag_items nodes.old queued.now node)) freed.old))) }
 {
-    let len_at = node * NODE_WORDS + 2;
+    let len_at = node * NODE_WORDS + BAG_LEN;
     let at = node * BAG_WORDS;
     let k = nodes[len_at] as usize;
+    // The place is counted by hand. Tried: the next of `freed.iter_mut()` for each token; what is written through it is not known of `freed` at the return.
     let mut t: usize = 0;
     for w in &queued[at..at + k] {
         match item_of(*w) {

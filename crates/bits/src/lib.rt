@@ -1,7 +1,7 @@
 // Free bits: which slots and which nodes are free, as bits of 64-bit words in a lent list.
 //
 // In the Rust the allocator knows what is free; here a set bit says so. The bits of a table stand in some words of the list, side by side,
-// so slots and nodes share every function. What reads them is lent these words alone, and promises over the table that `bits` of the
+// so slots and nodes share what reads and writes them. What reads them is lent these words alone, and promises over the table that `bits` of the
 // definition reads in them: the same as in the list (`bits_slice` of proofs/Laws). What writes one is lent the list and where the words
 // begin, since it leaves the rest of the list alone. Taking and giving are total: taking what is taken, and giving what is free, changes
 // nothing.
@@ -61,7 +61,8 @@ pub fn node_bits(globals: &[u64], n: usize, m: usize) -> &[u64]
     &globals[at..at + bit_words(m)]
 }
 
-// Returns the smallest free index below `n`, or `n` where none is free: the lowest set bit of the first word that has one.
+// Returns the smallest free index below `n`, or `n` where none is free, as the definition's `least` does (so it is no `Option`): the lowest set bit
+// of the first word that has one.
 pub fn first_free(words: &[u64], n: usize) -> usize
     requires few { length words.now ≤ 64 }
     requires none_beyond { within (length words.now) n (bits_of words.now) ≡ true }

@@ -28,5 +28,5 @@ pub fn take_call(l: &mut ListsMut<'_>, p: usize, c: Call) -> Answer
     let o = load(l.read().participants, p);
     let after = opens(l.n as u64, c, o);
     let mut none = [0u64; BAG_WORDS];
-    follow(l, p, o.held as usize, o.share, after, &mut none)
+    follow(l, p, o, after, &mut none)
 }

@@ -2,11 +2,11 @@
 use mathlib.Core.Path.{◌≡◌, refl, ap, sym, ◌∙◌}
 use mathlib.Core.Bool.{Bool, true, false, ◌&&◌, ◌||◌, not, false≢true}
 use mathlib.Core.List.{List, [], ◌∷◌}
-use Prim.Native.Nat.{ℕ, ◌+◌, ◌*◌, ◌≤◌, ◌<◌}
+use Prim.Native.Nat.{ℕ, ◌+◌, ◌-◌, ◌*◌, ◌≤◌, ◌<◌}
 use native.Mathlib.Omega.{arith}
 use lib.Dec.{eqb, ltb, leb}
 use lib.ListN.{get_or}
-use borrow.Author.Tests.{leb-false, ltb-false, eqb-true, eqb-false, eq-eqb}
+use borrow.Author.Tests.{leb-false, ltb-true, ltb-false, lt-ltb, le-ltb, eqb-true, eqb-false, eq-eqb}
 use Rattle.std.specs.Prelude.{Result, Ok, Err}
 use Rattle.definition.specs.Base.{branch, count, least}
 use Rattle.definition.specs.Bags.{max_objects, items}
@@ -337,3 +337,11 @@ module _ (N M : ℕ) (l : Lent) where
       let t = tables_of N M l in
       damage-then (call_rest N M p c t) ∙ ap then_check
       (call-first (absent N M p t) (running p t) (count_full c (the p t)) (token_above c) (twice p c t) (no_node N M p c t) (lacks c (the p t)))
+
+-- what is free, less what is set aside, is below the need just where the sum of the two is above what is free
+pub below_need : (free aside need : ℕ) → aside ≤ free → ltb (free - aside) need ≡ ltb free (aside + need)
+below_need free aside need h = by (ltb free (aside + need)) refl
+  where
+    by : (b : Bool) → ltb free (aside + need) ≡ b → ltb (free - aside) need ≡ b
+    by true e = lt-ltb (free - aside) need (let k = ltb-true free (aside + need) e in omega arith)
+    by false e = le-ltb (free - aside) need (let k = ltb-false free (aside + need) e in omega arith)

@@ -1,4 +1,4 @@
-// The refusals of the public calls, in document 01's order, with document 02's 16 (No. 6): sizes (2) and ranges (1) first, then what the call
+// The refusals of register, the seven calls and step, in document 01's order, with document 02's 16 (No. 6): sizes (2) and ranges (1) first, then what the call
 // itself asks.
 //
 // The Rust asks nothing of this: its types and its borrow checker see to it that a handle names a participant that is there, and its
@@ -25,7 +25,7 @@ use flow::Bag;
 use flow::links::is_tagged;
 use internal::calls::{count_full, lacks, needs, token_above};
 use internal::places::{is_rest, takes_node};
-use lent::{ASIDE, BAG_WORDS, GLOBAL_WORDS, Lists, PARTICIPANT_WORDS};
+use lent::{ASIDE, BAG_WORDS, ENTRY_NEXT, GLOBAL_WORDS, Lists, PARTICIPANT_WORDS};
 use ranges::{in_range, sizes};
 use records::load;
 use refusals::{Refusal, refuse_if};
@@ -102,7 +102,7 @@ impl<'a> Whole<'a> {
         if l.n <= p || slot_free(l.globals, l.n, p) {
             return Err(Refusal::Gone);
         }
-        let next = l.participants[p * PARTICIPANT_WORDS + 1];
+        let next = l.participants[p * PARTICIPANT_WORDS + ENTRY_NEXT];
         let o = load(l.participants, p);
         if is_tagged(next) && is_rest(o.place) {
             return Err(Refusal::Gone);

@@ -225,7 +225,8 @@ pub struct Code {
     pub token: u64,
 }
 
-// A participant as it stands in its table, beside its two shared words.
+// A participant as it stands in its table, beside its two shared words. A type of its own beside `Participant`: specs/Codec goes from the one to the
+// other, and the laws of tables and of places are each about one of the two.
 #[derive(Clone, Copy)]
 pub struct Record {
     pub counts: Counts,

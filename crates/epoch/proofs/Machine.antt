@@ -1,12 +1,10 @@
--- What the code's masks, its shift and its `-1 - n` compute, in the terms of specs/Epoch.antt: the proofs of the functions cite these.
+-- What the code's masks, its cast and its shift compute, in the terms of specs/Epoch.antt: the proofs of the functions cite these.
 -- `to_z w64` is the number that the bits of an i64 stand for. Assumes nothing.
-use Rattle.std.proofs.Common.{◌≡◌, ℕ, zero, suc, ◌-◌, ◌%◌, ◌^◌, ◌<◌, ◌≤◌, Bool, true, false, cond, ltb, ℤ, pos, negsuc, ◌-ℤ◌, refl, ap, zero-add, arith, w64, to_z}
+use Rattle.std.proofs.Common.{◌≡◌, ℕ, suc, ◌-◌, ◌%◌, ◌^◌, ◌<◌, Bool, true, false, cond, ltb, ℤ, pos, negsuc, refl, ap, arith, w64, to_z}
 use lib.Bits.{bit_and, bit_or, and_mask, and_high, or_add_and}
 use lib.Signed.{shr_z}
 use mir.Val.{sel}
-use mir.Facts.{to_z_pos}
 use Rattle.epoch.specs.Epoch.{unpinned, pinned, signed, halved}
-use Rattle.epoch.proofs.Laws.{signed_high}
 
 -- `w & 1` is the lowest bit
 pub and_one : (w : ℕ) → bit_and w 1 ≡ w % 2
@@ -36,14 +34,3 @@ pub shifted_one : (z : ℤ) → shr_z z 2 ≡ halved z
 unfolding halved
 shifted_one (pos n) = refl
 shifted_one (negsuc n) = refl
-
--- `-1 - n`
-minus_one : (n : ℕ) → negsuc 0 -ℤ pos n ≡ negsuc n
-minus_one zero = refl
-minus_one (suc n) = ap (λ (m : ℕ). negsuc (suc m)) (zero-add n)
-
--- `-1 - (u64::MAX - w)` is the reading of a word w of the upper half
-pub under_max : (w : ℕ) → 2 ^ 63 ≤ w → negsuc 0 -ℤ to_z w64 (2 ^ 64 - 1 - w) ≡ signed w
-under_max w high =
-    let small : 2 ^ 64 - 1 - w < 2 ^ 63 = omega arith in
-    rw (to_z_pos w64 small, minus_one (2 ^ 64 - 1 - w), signed_high w high)

@@ -9,7 +9,7 @@
 #![tactic(auto)]
 
 ghost use Rattle.std.specs.Prelude.{◌≡◌};
-ghost use Rattle.epoch.specs.Epoch.{starting, wrapping_sub, signed, is_pinned, pinned, unpinned, successor};
+ghost use Rattle.epoch.specs.Epoch.{starting, wrapping_sub, is_pinned, pinned, unpinned, successor};
 
 // An epoch that can be marked as pinned or unpinned. A type of its own, so that a word is not taken for an index of a table.
 #[derive(Clone, Copy, PartialEq, Eq)]
@@ -31,8 +31,7 @@ impl Epoch {
         ensures { result ≡ wrapping_sub self.0 rhs.0 }
     {
         // The lowest bit of `self` need not be cleared: the shift drops it. That of `rhs` must be, or it would borrow from the epoch.
-        let gap = std::num::wrapping_sub_u64(self.0, rhs.0 & !1);
-        as_signed(gap) >> 1
+        self.0.wrapping_sub(rhs.0 & !1).cast_signed() >> 1
     }
 
     // Returns `true` if the epoch is marked as pinned.
@@ -60,19 +59,6 @@ impl Epoch {
     pub fn successor(self) -> Epoch
         ensures { result.0 ≡ successor self.0 }
     {
-        Epoch(std::num::wrapping_add_u64(self.0, 2))
-    }
-}
-
-// Returns the word read as a signed number, as Rust's `word as i64` does. A cast here must not lose bits, so a word of the upper half
-// is counted down from -1, which is the word `u64::MAX`.
-fn as_signed(word: u64) -> i64
-    ensures { result ≡ signed word }
-{
-    if word < 0x8000_0000_0000_0000 {
-        word as i64
-    } else {
-        let under = u64::MAX - word;
-        -1 - (under as i64)
+        Epoch(self.0.wrapping_add(2))
     }
 }

@@ -124,7 +124,7 @@ pub fn done(value: u64, o: Participant) -> After
     }
 }
 
-// The same, with work besides.
+// What follows, with this work.
 #[tactic(auto, unfolding(definition::specs::Flow::also))]
 pub fn also(work: Work, a: After) -> After
     ensures { result ≡ also work a }

@@ -7,7 +7,7 @@ ghost use Rattle.definition.specs.Step.{answer_of};
 ghost use Rattle.lent.specs.Lists.{lent, Same};
 ghost use Rattle.follow.specs.Follow.{SetsAside, aside_globals, Follows, Followed};
 
-use definition::{After, Answer, End};
+use definition::{After, Answer, End, Participant};
 use lent::{ASIDE, ListsMut};
 use records::store;
 use settle::settle;
@@ -33,17 +33,16 @@ fn set_aside(globals: &mut [u64], before: u64, after: u64)
     globals[ASIDE] = globals[ASIDE] - before + after;
 }
 
-// Carries out what follows for participant `p`, who held `k` items and had a share of `share` nodes.
+// Carries out what follows for participant `p`, whose record was `before`: the items that it held and its share of nodes are looked at.
 pub fn follow(
     l: &mut ListsMut<'_>,
     p: usize,
-    k: usize,
-    share: u64,
+    before: Participant,
     after: After,
     freed: &mut [u64],
 ) -> Answer
-    requires { Follows l.old.n p k share after (lent l.old) freed.old }
-    ensures followed { Followed l.old.n p k share after (lent l.old) freed.old result (lent l.new) freed.new }
+    requires { Follows l.old.n p before.held before.share after (lent l.old) freed.old }
+    ensures followed { Followed l.old.n p before.held before.share after (lent l.old) freed.old result (lent l.new) freed.new }
     ensures same { Same l.old l.new }
 {
     let After {
@@ -51,8 +50,8 @@ pub fn follow(
         end,
         participant,
     } = after;
-    let count = settle(l, p, k, work, freed);
-    set_aside(l.globals, share, participant.share);
+    let count = settle(l, p, before.held as usize, work, freed);
+    set_aside(l.globals, before.share, participant.share);
     store(l.participants, p, participant);
     answer_of(end, count)
 }

@@ -50,53 +50,54 @@ struct Tables {
     freed: [u64; BAG_WORDS],
 }
 
-// ---- the lists
+impl Tables {
+    // Puts words into the lists, one list after another.
+    fn fill(&mut self, words: &[u64; WORDS]) {
+        self.globals.copy_from_slice(&words[..PARTICIPANTS]);
+        self.participants
+            .copy_from_slice(&words[PARTICIPANTS..NODES]);
+        self.nodes.copy_from_slice(&words[NODES..HELD]);
+        self.held.copy_from_slice(&words[HELD..QUEUED]);
+        self.queued.copy_from_slice(&words[QUEUED..]);
+    }
 
-// Puts words into the lists, one list after another.
-fn fill(t: &mut Tables, words: &[u64; WORDS]) {
-    t.globals.copy_from_slice(&words[..PARTICIPANTS]);
-    t.participants.copy_from_slice(&words[PARTICIPANTS..NODES]);
-    t.nodes.copy_from_slice(&words[NODES..HELD]);
-    t.held.copy_from_slice(&words[HELD..QUEUED]);
-    t.queued.copy_from_slice(&words[QUEUED..]);
+    // Returns the words of the lists, one list after another.
+    fn words(&self) -> [u64; WORDS] {
+        let mut words = [0; WORDS];
+        keep(&mut words, 0, &self.globals);
+        keep(&mut words, PARTICIPANTS, &self.participants);
+        keep(&mut words, NODES, &self.nodes);
+        keep(&mut words, HELD, &self.held);
+        keep(&mut words, QUEUED, &self.queued);
+        words
+    }
+
+    // Puts words into the lists and plays an action; a broken record starts afresh.
+    fn play(&mut self, words: &[u64; WORDS], action: Option<Action>) -> Answer {
+        self.fill(words);
+        self.freed.fill(0);
+        let mut l = ListsMut {
+            n: N,
+            m: M,
+            globals: &mut self.globals,
+            participants: &mut self.participants,
+            nodes: &mut self.nodes,
+            held: &mut self.held,
+            queued: &mut self.queued,
+        };
+        match action {
+            Some(action) => player::act(&mut l, &mut self.freed, Some(action)),
+            None => reclaimer::start(&mut l),
+        }
+    }
 }
 
-// Returns the words of the lists, one list after another.
-fn words_of(t: &Tables) -> [u64; WORDS] {
-    let mut words = [0; WORDS];
-    keep(&mut words, 0, &t.globals);
-    keep(&mut words, PARTICIPANTS, &t.participants);
-    keep(&mut words, NODES, &t.nodes);
-    keep(&mut words, HELD, &t.held);
-    keep(&mut words, QUEUED, &t.queued);
-    words
-}
-
-// Keeps the words of a list, from `from` on. A function of its own: with five such lines in `words_of`, the bounds of the last three did
-// not close.
+// Keeps the words of a list, from `from` on. A function of its own: with five such lines in `Tables::words`, the bounds of the last three
+// did not close.
 fn keep(words: &mut [u64], from: usize, l: &[u64])
     requires { from + length l.now ≤ length words.old }
 {
     words[from..from + l.len()].copy_from_slice(l);
-}
-
-// Puts words into the lists and plays an action; a broken record starts afresh.
-fn play(t: &mut Tables, words: &[u64; WORDS], action: Option<Action>) -> Answer {
-    fill(t, words);
-    t.freed.fill(0);
-    let mut l = ListsMut {
-        n: N,
-        m: M,
-        globals: &mut t.globals,
-        participants: &mut t.participants,
-        nodes: &mut t.nodes,
-        held: &mut t.held,
-        queued: &mut t.queued,
-    };
-    match action {
-        Some(_) => player::act(&mut l, &mut t.freed, action),
-        None => reclaimer::start(&mut l),
-    }
 }
 
 // ---- a case
@@ -143,8 +144,8 @@ fn value(w: u64, turn: u64) -> u64 {
     }
 }
 
-// Returns what is tried with a changed word: of nineteen, ten are steps, every other one marked, one is a marked step of a participant that there is not, and
-// the rest the calls.
+// Returns what is tried with a changed word. Of nineteen turns ten are steps, every other one marked; one is a marked step of participant 3, who is
+// beyond the last; the others are the calls.
 fn tried(turn: u64) -> Action {
     let p = turn / 19 % 3;
     let k = turn % 19;
@@ -178,7 +179,7 @@ struct Tally {
 impl Tally {
     // Counts an answer: `words` stood in the lists before.
     fn count(&mut self, answer: Answer, words: &[u64; WORDS], t: &Tables) {
-        let after = words_of(t);
+        let after = t.words();
         match answer {
             Answer::Done(v, k) => {
                 self.done = self.done.wrapping_add(1);
@@ -224,7 +225,7 @@ fn try_moment(kept: &[u64; WORDS], first: u64, t: &mut Tables) -> Tally {
         let Case { at, value, action } = Case::new(kept, i, first.wrapping_add(i as u64));
         let mut words = *kept;
         words[at] = value;
-        let answer = play(t, &words, Some(action));
+        let answer = t.play(&words, Some(action));
         tally.count(answer, &words, t);
     }
     tally
@@ -243,8 +244,8 @@ fn report<W: Write>(writer: &mut W, t: Tally) -> io::Result<()> {
 fn run<W: Write>(writer: &mut W, block: &[u8], t: &mut Tables) -> io::Result<()> {
     let mut kept = [0; WORDS];
     for (i, bytes) in block.chunks_exact(8).enumerate() {
-        play(t, &kept, script::action_of(bytes));
-        kept = words_of(t);
+        t.play(&kept, script::action_of(bytes));
+        kept = t.words();
         if i % EVERY == 0 {
             report(writer, try_moment(&kept, i as u64, t))?;
         }

@@ -1,6 +1,7 @@
 // src/internal.rs, the functions of `Local` that a participant calls: what each asks first, the nodes that it needs, and what it begins,
 // up to its first access. An operation without an access is over at once. Refusals and needs are our own, with the numbers that
-// document 01 gives them. Each promise cites the definition of the same name.
+// document 01 gives them. Each promise cites the definition of the same name, or what `begins` gives for the call. Bounds of the counts are asked by
+// `requires`, not said by a type: `Participant` is the definition's, and holds any numbers there.
 ghost use Rattle.std.specs.Prelude.{◌≡◌, ◌+◌, ◌^◌, ◌<◌, nat_le};
 ghost use Rattle.definition.specs.Base.{branch};
 ghost use Rattle.definition.specs.Calls.{lacks, count_full, token_above, finalizes, overflow, pin_needs, needs, begins, opens};

@@ -9,6 +9,8 @@
 ghost use Rattle.std.specs.Prelude.{◌≡◌};
 ghost use Rattle.lent.specs.Lists.{read, lent};
 
+use flow::Bag;
+
 // Words of `globals` before the free bits: the global epoch, the head of the list, both ends of the queue, the set-aside total.
 pub const GLOBAL_WORDS: usize = 5;
 
@@ -25,11 +27,17 @@ pub const ASIDE: usize = 4;
 // Words of a participant's row: its epoch, its entry's next, and then its record.
 pub const PARTICIPANT_WORDS: usize = 21;
 
+pub const ENTRY_NEXT: usize = 1;
+
 // Words of a node's row: its next, the seal of its bag, and the length of that.
 pub const NODE_WORDS: usize = 3;
 
+pub const SEAL: usize = 1;
+
+pub const BAG_LEN: usize = 2;
+
 // Words of a bag's row: one for each item that it has room for.
-pub const BAG_WORDS: usize = 64;
+pub const BAG_WORDS: usize = Bag::MAX_OBJECTS as usize;
 
 // The lists, lent to be read.
 #[derive(Clone, Copy)]

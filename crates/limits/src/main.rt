@@ -5,6 +5,7 @@
 
 ghost use Rattle.std.specs.Prelude.{◌+◌, ◌≤◌};
 
+use bits::bit_words;
 use definition::{Answer, Call};
 use lent::{BAG_WORDS, GLOBAL_WORDS, ListsMut, NODE_WORDS, PARTICIPANT_WORDS};
 use std::io::{self, Write};
@@ -25,7 +26,8 @@ struct Buffers {
     freed: [u64; BAG_WORDS + 1],
 }
 
-// Returns the length to lend: in the tenfold first cases of thirteen, list `list` is one word short, then one word long.
+// Returns the length to lend of list `list`, which is right with `k` words: in the first ten of thirteen cases one list after another is one
+// word short, then one word long.
 fn lent_length(k: usize, case: usize, list: usize) -> usize
     requires { (k ≤ 8256) × (list ≤ 4) }
     ensures { result ≤ k + 1 }
@@ -61,6 +63,7 @@ fn ask(l: &mut ListsMut<'_>, freed: &mut [u64]) -> [Answer; 4] {
 }
 
 // Lends lists of the lengths of a case.
+#[tactic(auto, unfolding(definition::specs::Ranges::bit_words))]
 fn try_case(b: &mut Buffers, n: usize, m: usize, case: usize) -> [Answer; 4]
     requires { (n ≤ 33) × (m ≤ 129) }
 {
@@ -74,7 +77,7 @@ fn try_case(b: &mut Buffers, n: usize, m: usize, case: usize) -> [Answer; 4]
     } = b;
     // A slice, since a part of an array behind a reference is not covered as an argument.
     let freed: &mut [u64] = freed;
-    let bits = n.div_ceil(64) + m.div_ceil(64);
+    let bits = bit_words(n) + bit_words(m);
     let mut l = ListsMut {
         n,
         m,
@@ -87,7 +90,7 @@ fn try_case(b: &mut Buffers, n: usize, m: usize, case: usize) -> [Answer; 4]
     ask(&mut l, &mut freed[..places(case)])
 }
 
-// Writes an answer.
+// Writes an answer. No `Display` of `Answer`, which is the definition's: the form is that of this program's lines alone.
 fn say_answer<W: Write>(writer: &mut W, answer: Answer) -> io::Result<()> {
     match answer {
         Answer::Done(v, _) => write!(writer, ", done {v}"),

@@ -26,7 +26,7 @@ pub fn act(l: &mut ListsMut<'_>, freed: &mut [u64], action: Option<Action>) -> A
         Some(Action::Step(p, marked)) => reclaimer::step(l, p as usize, marked, freed),
         Some(Action::Register) => reclaimer::register(l),
         Some(Action::Call(p, c)) => reclaimer::call(l, p as usize, c),
-        None => Answer::Refused(u64::from(Refusal::Record)),
+        None => Answer::from(Refusal::Record),
     }
 }
 
@@ -89,7 +89,7 @@ impl Tables {
         }
     }
 
-    // Starts afresh, whatever the lists held.
+    // Starts afresh, whatever the lists held. (Here and below the fields are lent in place: a function that lends several at once gets no proof.)
     pub fn start(&mut self) -> Answer
         ensures started { outcome_of result (owned self.new) [] ≡ start_lent 32 128 (owned self.old) }
         ensures freed { self.new.freed ≡ self.old.freed }

@@ -5,7 +5,8 @@
 // all of them is looked at before anything in them is used as an index, a length or a place.
 //
 // Each promise cites the definition that has the function's name, in specs/Ranges of `definition`, or a row of it, in specs/Rows. What reads
-// only the number of participants takes only that, and promises its answer for every number of nodes; and the other way round.
+// only the number of participants takes only that, and promises its answer for every number of nodes; and the other way round. N and M go as
+// two numbers, as in the definition's functions.
 #![tactic(auto)]
 
 ghost use Rattle.std.specs.Prelude.{◌≡◌, ◌&&◌, true, ℕ, ◌+◌, ◌*◌, ◌^◌, ◌≤◌, ◌<◌, length};
@@ -29,7 +30,8 @@ use definition::{
 use flow::{Bag, Deferred, Global, Local};
 use internal::places::is_rest;
 use lent::{
-    ASIDE, BAG_WORDS, LIST_HEAD, Lists, NODE_WORDS, PARTICIPANT_WORDS, QUEUE_HEAD, QUEUE_TAIL,
+    ASIDE, BAG_LEN, BAG_WORDS, ENTRY_NEXT, LIST_HEAD, Lists, NODE_WORDS, PARTICIPANT_WORDS,
+    QUEUE_HEAD, QUEUE_TAIL,
 };
 use records::{decode, encode, load_record};
 
@@ -233,7 +235,7 @@ fn end_pointer_in(m: u64, w: u64) -> bool
     untagged_in(m, w) && 1 <= w / 2
 }
 
-// Returns whether a word is an item: a token, a node or a slot.
+// Returns whether a word is an item: a token, a node or a slot. (Not by `item_of` of bags, which reads every word as one.)
 #[tactic(auto, unfolding(definition::specs::Ranges::item_in, definition::specs::Calls::max_token, definition::specs::Base::branch))]
 fn item_in(n: u64, m: u64, w: u64) -> bool
     ensures { result ≡ item_in n m w }
@@ -273,7 +275,7 @@ fn participant_in(l: Lists<'_>, aside: u64, i: usize) -> bool
 {
     let n = l.n as u64;
     let m = l.m as u64;
-    let next = l.participants[i * PARTICIPANT_WORDS + 1];
+    let next = l.participants[i * PARTICIPANT_WORDS + ENTRY_NEXT];
     let r = load_record(l.participants, i);
     entry_pointer_in(n, next) && record_in(n, m, aside, r) && bag_in(n, m, r.held, l.held, i)
 }
@@ -295,7 +297,7 @@ fn node_row_in(l: Lists<'_>, k: usize) -> bool
     let n = l.n as u64;
     let m = l.m as u64;
     let next = l.nodes[k * NODE_WORDS];
-    let len = l.nodes[k * NODE_WORDS + 2];
+    let len = l.nodes[k * NODE_WORDS + BAG_LEN];
     untagged_in(m, next) && bag_in(n, m, len, l.queued, k)
 }
 

@@ -31,7 +31,7 @@ fn refused<T: Copy>(checked: Result<T, Refusal>) -> Answer
 {
     match checked {
         Ok(_) => Answer::Refused(0),
-        Err(refusal) => Answer::Refused(u64::from(refusal)),
+        Err(refusal) => Answer::from(refusal),
     }
 }
 
@@ -41,7 +41,7 @@ pub fn start(l: &mut ListsMut<'_>) -> Answer
     ensures same { Same l.old l.new }
 {
     if !sizes(l.read()) {
-        return Answer::Refused(u64::from(Refusal::Sizes));
+        return Answer::from(Refusal::Sizes);
     }
     start::start(l);
     Answer::Done(0, 0)
@@ -148,10 +148,11 @@ pub fn step(l: &mut ListsMut<'_>, p: usize, marked: bool, freed: &mut [u64]) -> 
 pub fn survey(l: Lists<'_>, reports: &mut [Report]) -> Answer
     ensures { surveyed_as result reports.new ≡ survey_lent l.entry.n l.entry.m (read l.entry) reports.old }
 {
-    let checked = check_survey(l, reports.len());
+    let places = reports.len();
+    let checked = check_survey(l, places);
     let Ok(whole) = checked else {
         return refused(checked);
     };
-    fill_reports(whole, reports);
+    fill_reports(whole.lists, reports);
     Answer::Done(0, 0)
 }

@@ -4,7 +4,8 @@
 // steps, so each of the thirty places has a number, and what it carries has a column. The first two words of a row are shared (crate
 // `words`); the nineteen after them are the participant's own, and only these are read and written here.
 //
-// Each promise cites the definition of like name: specs/Codec, specs/Links and specs/Layout of `definition`, and specs/Stores. A pointer
+// Each promise cites the definition of like name: specs/Codec and specs/Layout of `definition`, and specs/Stores. (What reads a code is no `From`: an
+// impl would have to stand with the types, in `definition`, of which the form in a table is one use among others.) A pointer
 // is written as 2(i + 1), so what writes one asks that this fits a word, `PointersFit`: it does for any place that was read, and for any
 // that is in range (proofs/Fits).
 #![tactic(auto)]

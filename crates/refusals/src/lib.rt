@@ -4,7 +4,10 @@
 
 ghost use Rattle.std.specs.Prelude.{◌≡◌};
 ghost use Rattle.definition.specs.Base.{branch};
+ghost use Rattle.definition.specs.declared.Answer.{Answer};
 ghost use Rattle.refusals.specs.Numbers.{number, refused};
+
+use definition::Answer;
 
 // The refusals, in the order of their numbers.
 #[derive(Clone, Copy, Debug, PartialEq, Eq)]
@@ -60,6 +63,15 @@ impl From<Refusal> for u64 {
             Refusal::Record => 13,
             Refusal::HeldAlready => 16,
         }
+    }
+}
+
+// As the answer of a call.
+impl From<Refusal> for Answer {
+    ghost from_gives = { λ r a. a ≡ Answer.Refused (number r) };
+
+    fn from(r: Refusal) -> Answer {
+        Answer::Refused(u64::from(r))
     }
 }
 

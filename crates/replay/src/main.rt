@@ -9,6 +9,7 @@
 
 ghost use Rattle.std.specs.Prelude.{◌≡◌, ◌+◌, ◌<◌, ◌≤◌, length, IfSome};
 
+use bits::bit_words;
 use definition::Answer;
 use lent::{
     ASIDE, BAG_WORDS, GLOBAL_WORDS, ListsMut, NODE_WORDS, PARTICIPANT_WORDS, QUEUE_HEAD, QUEUE_TAIL,
@@ -29,7 +30,8 @@ enum Kind {
     Odd,
 }
 
-// A line, as far as it is read: what it is, how many numbers it has, those, and the one that is being read.
+// A line, as far as it is read: what it is, how many numbers it has, those, and the one that is being read. Their number stands beside them, since
+// the memory is fixed: no heap.
 #[derive(Drop)]
 struct Line {
     kind: Kind,
@@ -89,13 +91,42 @@ impl Line {
     }
 }
 
-// What the numbers of a line say: what was asked, which may be a broken record, what came of it, which tokens were freed, and which cells
-// changed, each with its value.
+// An answer as a line says it: with no number of freed tokens, since it lists these.
+#[derive(Clone, Copy, PartialEq)]
+enum Said {
+    More,
+    Done(u64),
+    Refused(u64),
+}
+
+impl Said {
+    // Returns the answer of those numbers: 0 is more, which has the value 0, 1 is done, and 2 is refused.
+    fn new(number: u64, value: u64) -> Option<Said> {
+        match (number, value) {
+            (0, 0) => Some(Said::More),
+            (1, v) => Some(Said::Done(v)),
+            (2, r) => Some(Said::Refused(r)),
+            _ => None,
+        }
+    }
+}
+
+impl From<Answer> for Said {
+    fn from(answer: Answer) -> Said {
+        match answer {
+            Answer::More(_) => Said::More,
+            Answer::Done(v, _) => Said::Done(v),
+            Answer::Refused(r) => Said::Refused(r),
+        }
+    }
+}
+
+// What the numbers of a line say: what was asked, which may be a broken record, what came of it, which may be no answer, which tokens were
+// freed, and which cells changed, each with its value.
 #[derive(Clone, Copy)]
 struct Record<'a> {
     action: Option<Action>,
-    answer: u64,
-    value: u64,
+    answer: Option<Said>,
     freed: &'a [u64],
     changes: &'a [u64],
 }
@@ -118,8 +149,7 @@ impl<'a> Record<'a> {
         }
         Some(Record {
             action: action_of(*action, *p, *token),
-            answer: *answer,
-            value: *value,
+            answer: Said::new(*answer, *value),
             freed,
             changes,
         })
@@ -134,16 +164,6 @@ fn action_of(action: u64, p: u64, token: u64) -> Option<Action> {
     script::action_of(&[action, p, 0, 0, a, b, c, d])
 }
 
-// Returns `true` if an answer is the one that a line says: 0 more, 1 done, 2 refused, and its value.
-fn is_answer(answer: Answer, number: u64, value: u64) -> bool {
-    match (number, answer) {
-        (0, Answer::More(_)) => value == 0,
-        (1, Answer::Done(v, _)) => value == v,
-        (2, Answer::Refused(r)) => value == r,
-        _ => false,
-    }
-}
-
 // ---- the reclaimer
 
 // The sizes of a schedule.
@@ -154,15 +174,15 @@ struct Sizes {
     ghost taken: { (n ≤ 32) × (m ≤ 128) },
 }
 
-// What a line asks for: a fresh start, or what a record does, which may be broken.
-#[derive(Clone, Copy)]
-enum Asked {
-    Start,
-    Record(Option<Action>),
-}
-
-// Does so on the first parts of the lists, as long as they are for those sizes.
-fn play(t: &mut Tables, sizes: Sizes, asked: Asked) -> Answer {
+// Makes a call on the first parts of the lists, as long as they are for those sizes.
+#[tactic(auto, unfolding(definition::specs::Ranges::bit_words))]
+fn ask<F: FnOnce(&mut ListsMut<'_>, &mut [u64]) -> Answer>(
+    t: &mut Tables,
+    sizes: Sizes,
+    call: F,
+) -> Answer
+    requires { F.IsAlwaysCallable call }
+{
     let Sizes { n, m } = sizes;
     let Tables {
         globals,
@@ -175,21 +195,13 @@ fn play(t: &mut Tables, sizes: Sizes, asked: Asked) -> Answer {
     let mut l = ListsMut {
         n,
         m,
-        globals: &mut globals[..GLOBAL_WORDS + n.div_ceil(64) + m.div_ceil(64)],
+        globals: &mut globals[..GLOBAL_WORDS + bit_words(n) + bit_words(m)],
         participants: &mut participants[..PARTICIPANT_WORDS * n],
         nodes: &mut nodes[..NODE_WORDS * m],
         held: &mut held[..BAG_WORDS * n],
         queued: &mut queued[..BAG_WORDS * m],
     };
-    ask(&mut l, freed, asked)
-}
-
-// Does so on lists as they are lent.
-fn ask(l: &mut ListsMut<'_>, freed: &mut [u64], asked: Asked) -> Answer {
-    match asked {
-        Asked::Start => reclaimer::start(l),
-        Asked::Record(action) => player::act(l, freed, action),
-    }
+    call(&mut l, freed)
 }
 
 // ---- comparing
@@ -203,10 +215,10 @@ const BLOCK: usize = 128;
 
 const ITEMS: usize = 8;
 
+const CELLS: usize = NODES + BLOCK * M;
+
 // How many words of a participant's row are compared: its two shared words, its counts, and how many items its bag has.
 const COUNTED: usize = 6;
-
-const CELLS: usize = NODES + BLOCK * M;
 
 // Where the free bits of the slots and of the nodes begin in `globals`, and the pointer to node 0.
 const SLOT_BITS: usize = GLOBAL_WORDS;
@@ -215,17 +227,31 @@ const NODE_BITS: usize = GLOBAL_WORDS + 1;
 
 const SENTINEL: u64 = 2;
 
-// What stands for a cell where an answer or tokens differ.
-const ANSWER: usize = CELLS;
+// What differs: the word of a cell, the answer, or the freed tokens.
+#[derive(Clone, Copy)]
+enum Where {
+    Cell(usize),
+    Answer,
+    Freed,
+}
 
-const FREED: usize = CELLS + 1;
+impl Where {
+    // Returns the number that is printed: a cell's own is below `CELLS`.
+    fn number(self) -> usize {
+        match self {
+            Where::Cell(cell) => cell,
+            Where::Answer => CELLS,
+            Where::Freed => CELLS + 1,
+        }
+    }
+}
 
-// What was compared: the words, those that differ, and the cell of the last that does.
+// What was compared: the words, how many differences there are, and the last of them.
 #[derive(Clone, Copy, Default)]
 struct Seen {
     words: u64,
     differ: u64,
-    cell: Option<usize>,
+    last: Option<Where>,
 }
 
 impl Seen {
@@ -233,31 +259,31 @@ impl Seen {
     fn word(&mut self, expected: u64, found: u64, cell: usize) {
         self.words = self.words.wrapping_add(1);
         if expected != found {
-            self.miss(cell);
+            self.miss(Where::Cell(cell));
         }
     }
 
     // Counts a difference.
-    fn miss(&mut self, cell: usize) {
+    fn miss(&mut self, at: Where) {
         self.differ = self.differ.wrapping_add(1);
-        self.cell = Some(cell);
+        self.last = Some(at);
     }
 
     // Compares the cells from `at` on with the words of a row.
     fn row(&mut self, cells: &[u64], at: usize, row: &[u64])
         requires { at + length row.now ≤ length cells.now }
     {
-        for (i, found) in row.iter().enumerate() {
-            self.word(cells[at + i], *found, at + i);
+        for (i, (expected, found)) in cells[at..].iter().zip(row).enumerate() {
+            self.word(*expected, *found, at + i);
         }
     }
 }
 
-// Returns 1 where index `i` is taken, by the free bits from word `at` on, else 0.
-fn taken(globals: &[u64; NODE_BITS + 2], at: usize, i: usize) -> u64
+// Returns `true` if index `i` is taken, by the free bits from word `at` on.
+fn taken(globals: &[u64; NODE_BITS + 2], at: usize, i: usize) -> bool
     requires { (at ≤ NODE_BITS) × (i < M) }
 {
-    1 - (globals[at + i / 64] >> (i % 64)) % 2
+    (globals[at + i / 64] >> (i % 64)) % 2 == 0
 }
 
 // Returns `true` if a cell is the first of a slot's or of a node's.
@@ -267,11 +293,11 @@ fn is_first(at: usize) -> bool {
 
 // ---- the course
 
-// Where the first difference is: its line, and its cell. (A cell is below 20,496; 20,496 stands for an answer, 20,497 for freed tokens.)
+// A difference: its line, and what differs there.
 #[derive(Clone, Copy)]
 struct Difference {
     line: u64,
-    cell: usize,
+    at: Where,
 }
 
 // What was counted, and the first difference.
@@ -298,9 +324,7 @@ impl Course {
         self.words = self.words.wrapping_add(seen.words);
         self.differ = self.differ.wrapping_add(seen.differ);
         let line = self.lines;
-        self.first = self
-            .first
-            .or(seen.cell.map(|cell| Difference { line, cell }));
+        self.first = self.first.or(seen.last.map(|at| Difference { line, at }));
     }
 
     // Says what was compared, how many differ, and where the first difference is.
@@ -310,11 +334,12 @@ impl Course {
         writeln!(writer, "{} words", self.words)?;
         writeln!(writer, "{} lines not understood", self.odd)?;
         writeln!(writer, "{} differences", self.differ)?;
-        if let Some(Difference { line, cell }) = self.first {
+        if let Some(Difference { line, at }) = self.first {
             writeln!(writer, "{line} is the line of the first")?;
             writeln!(
                 writer,
-                "{cell} is its cell, 20496 the answer, 20497 the freed tokens"
+                "{} is its cell, 20496 the answer, 20497 the freed tokens",
+                at.number()
             )?;
         }
         Ok(())
@@ -370,12 +395,12 @@ impl Replay {
             n: min(n, N),
             m: min(m, M),
         };
-        let answer = play(&mut self.tables, sizes, Asked::Start);
+        let answer = ask(&mut self.tables, sizes, |l, _| reclaimer::start(l));
         self.cells.fill(0);
         self.cells[QUEUE_HEAD] = SENTINEL;
         self.cells[QUEUE_TAIL] = SENTINEL;
         self.cells[NODES] = 1;
-        if is_answer(answer, 1, 0) {
+        if Said::from(answer) == Said::Done(0) {
             self.sizes = sizes;
             self.course.schedules = self.course.schedules.wrapping_add(1);
         } else {
@@ -388,17 +413,19 @@ impl Replay {
     fn play(&mut self, record: Record<'_>)
         requires { length «record».freed.now ≤ BAG_WORDS }
     {
-        let answer = play(&mut self.tables, self.sizes, Asked::Record(record.action));
+        let answer = ask(&mut self.tables, self.sizes, |l, freed| {
+            player::act(l, freed, record.action)
+        });
         for [cell, value] in record.changes.as_chunks::<2>().0 {
             self.change(*cell, *value);
         }
         let mut seen = self.compare();
         let k = record.freed.len();
         if script::freed_count(answer) != k as u64 || &self.tables.freed[..k] != record.freed {
-            seen.miss(FREED);
+            seen.miss(Where::Freed);
         }
-        if !is_answer(answer, record.answer, record.value) {
-            seen.miss(ANSWER);
+        if record.answer != Some(Said::from(answer)) {
+            seen.miss(Where::Answer);
         }
         self.course.record(seen);
     }
@@ -448,12 +475,12 @@ impl Replay {
 
     // Compares a slot or a node, whose cells begin at `at`: whether it is taken, and where it is the words of its row, the last of which is how many
     // items its bag has, and these.
-    fn compare_block(&self, seen: &mut Seen, at: usize, taken: u64, row: &[u64], bag: &[u64])
+    fn compare_block(&self, seen: &mut Seen, at: usize, taken: bool, row: &[u64], bag: &[u64])
         requires within { at + BLOCK ≤ CELLS }
         requires row { length row.now < ITEMS }
         requires bag { length bag.now ≡ BAG_WORDS }
     {
-        seen.word(self.cells[at], taken, at);
+        seen.word(self.cells[at], u64::from(taken), at);
         if self.cells[at] != 0 {
             let k = min(self.cells[at + row.len()] as usize, BAG_WORDS);
             seen.row(&self.cells, at + 1, row);

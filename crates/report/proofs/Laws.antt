@@ -1,10 +1,9 @@
 -- The lines of slots, one more at a time. Assumes nothing.
-use Rattle.std.proofs.Common.{◌≡◌, ℕ, zero, suc, ◌+◌, ◌<◌, List, [], ◌∷◌, ◌++◌, refl, sym, ap, ◌∙◌, arith, length, take, append-nil}
+use Rattle.std.proofs.Common.{◌≡◌, ℕ, zero, suc, ◌+◌, ◌<◌, List, [], ◌∷◌, ◌++◌, sym, ap, ◌∙◌, arith, length, take, append-nil}
 use mathlib.Core.List.{append_assoc}
 use lib.ListN.{get_or}
-use Rattle.definition.specs.declared.Answer.{Answer}
 use Rattle.definition.specs.declared.Report.{Report}
-use Rattle.report.specs.Lines.{line_of, lines_of, survey_text}
+use Rattle.report.specs.Lines.{line_of, lines_of}
 
 -- one slot more
 pub lines_more : (q : ℕ) (l : List Report) (n m : ℕ) (d : Report) → n < length l → m ≡ q + n
@@ -17,10 +16,3 @@ lines_more q (r ∷ l) zero m d h e =
 lines_more q (r ∷ l) (suc n) m d h e =
     append_assoc (line_of q r) (lines_of (q + 1) (take n l)) (line_of m (get_or l n d))
     ∙ ap (λ (x : List ℕ). line_of q r ++ x) (lines_more (q + 1) l n m d (omega arith) (omega arith))
-
--- a survey that is not refused
-pub text_is : (a : Answer) (l : List Report) → ((x : ℕ) → a ≡ Answer.Refused x → ⊥) → survey_text a l ≡ lines_of 0 l
-unfolding survey_text
-text_is (Answer.Refused r) l never = absurd (never r refl)
-text_is (Answer.Done v k) l never = refl
-text_is (Answer.More k) l never = refl

@@ -1,8 +1,7 @@
 -- What a survey is printed as. Bytes are numbers below 256; letters are their ASCII codes. Assumes nothing.
-use Rattle.std.specs.Prelude.{List, [], ◌∷◌, ◌++◌, ℕ, ◌+◌, eqb, decimal}
+use Rattle.std.specs.Prelude.{List, [], ◌∷◌, ◌++◌, ℕ, ◌+◌, eqb, decimal, Result, Ok, Err}
 use Rattle.std.specs.Fmt.{signed_decimal}
 use Rattle.definition.specs.Base.{branch}
-use Rattle.definition.specs.declared.Answer.{Answer}
 use Rattle.definition.specs.declared.Report.{Report}
 
 -- its number, state, guards, handles, items held and distance
@@ -20,7 +19,6 @@ lines_of p [] = []
 lines_of p (r ∷ l) = line_of p r ++ lines_of (p + 1) l
 
 -- `refused R` where it is refused
-unfoldable pub survey_text : Answer → List Report → List ℕ
-survey_text (Answer.Refused r) l = 114 ∷ 101 ∷ 102 ∷ 117 ∷ 115 ∷ 101 ∷ 100 ∷ 32 ∷ (decimal r ++ 10 ∷ [])
-survey_text (Answer.Done v k) l = lines_of 0 l
-survey_text (Answer.More k) l = lines_of 0 l
+unfoldable pub survey_text : Result (List Report) ℕ → List ℕ
+survey_text (Err r) = 114 ∷ 101 ∷ 102 ∷ 117 ∷ 115 ∷ 101 ∷ 100 ∷ 32 ∷ (decimal r ++ 10 ∷ [])
+survey_text (Ok l) = lines_of 0 l

@@ -7,24 +7,19 @@ ghost use Rattle.std.specs.Prelude.{◌≡◌, replicate, OnOk};
 ghost use Rattle.std.specs.Io.KnownBytes.{Appends};
 ghost use Rattle.definition.specs.Survey.{survey_lent};
 ghost use Rattle.player.specs.Owned.{owned};
-ghost use Rattle.reclaimer.specs.Outcomes.{surveyed_as};
-ghost use Rattle.report.specs.Lines.{line_of, survey_text};
+ghost use Rattle.report.specs.Lines.{line_of, lines_of, survey_text};
+ghost use Rattle.report.specs.Surveys.{surveyed};
 ghost use Rattle.survey.specs.Surveys.{blank};
 
 use definition::{Answer, Report};
 use player::{N, Tables};
 use std::io::{self, Write};
+use survey::State;
 
-// A survey: its answer and its reports.
-#[derive(Clone, Copy)]
-struct Surveyed {
-    answer: Answer,
-    reports: [Report; N],
-}
-
-// Surveys the tables. The list of reports is lent here and nowhere else.
-fn survey(tables: &Tables) -> Surveyed
-    ensures { surveyed_as result.answer result.reports ≡ survey_lent 32 128 (owned tables.now) (replicate 32 (blank 0)) }
+// Surveys the tables, or returns what that is refused for. The list of reports is lent here and nowhere else. (`Report` is the definition's, and has no
+// `Default`.)
+fn survey(tables: &Tables) -> Result<[Report; N], u64>
+    ensures { surveyed (replicate 32 (blank 0)) result ≡ survey_lent 32 128 (owned tables.now) (replicate 32 (blank 0)) }
 {
     let blank = Report {
         state: 0,
@@ -34,16 +29,18 @@ fn survey(tables: &Tables) -> Surveyed
         distance: 0,
     };
     let mut reports = [blank; N];
-    let answer = reclaimer::survey(tables.read(), &mut reports);
-    Surveyed { answer, reports }
+    match reclaimer::survey(tables.read(), &mut reports) {
+        Answer::Refused(r) => Err(r),
+        _ => Ok(reports),
+    }
 }
 
 // Writes the line of slot `p`, unless it is free.
-#[tactic(auto, unfolding(crate::specs::Lines::line_of, definition::specs::Base::branch))]
+#[tactic(auto, unfolding(crate::specs::Lines::line_of, definition::specs::Base::branch, survey::specs::States::state_number))]
 fn say_report<W: Write>(writer: &mut W, p: usize, r: Report) -> io::Result<()>
     ensures { OnOk result (Appends (W.contents writer.old) (W.contents writer.new) (line_of p r)) }
 {
-    if r.state == 0 {
+    if r.state == u64::from(State::Free) {
         return Ok(());
     }
     let Report {
@@ -56,18 +53,25 @@ fn say_report<W: Write>(writer: &mut W, p: usize, r: Report) -> io::Result<()>
     writeln!(writer, "{p} {state} {guards} {handles} {held} {distance}")
 }
 
-// Writes the lines of a survey.
-#[tactic(auto, unfolding(crate::specs::Lines::survey_text))]
-fn say_survey<W: Write>(writer: &mut W, s: Surveyed) -> io::Result<()>
-    ensures { OnOk result (Appends (W.contents writer.old) (W.contents writer.new) (survey_text s.answer s.reports)) }
+// Writes the lines of reports.
+fn say_reports<W: Write>(writer: &mut W, reports: &[Report]) -> io::Result<()>
+    ensures { OnOk result (Appends (W.contents writer.old) (W.contents writer.new) (lines_of 0 reports.now)) }
 {
-    if let Answer::Refused(r) = s.answer {
-        return writeln!(writer, "refused {r}");
-    }
-    for (p, report) in s.reports.iter().enumerate() {
+    for (p, report) in reports.iter().enumerate() {
         say_report(writer, p, *report)?;
     }
     Ok(())
+}
+
+// Writes the lines of a survey, or of its refusal.
+#[tactic(auto, unfolding(crate::specs::Lines::survey_text))]
+fn say_survey<W: Write>(writer: &mut W, s: Result<[Report; N], u64>) -> io::Result<()>
+    ensures { OnOk result (Appends (W.contents writer.old) (W.contents writer.new) (survey_text s)) }
+{
+    match s {
+        Ok(reports) => say_reports(writer, &reports),
+        Err(r) => writeln!(writer, "refused {r}"),
+    }
 }
 
 fn main(rt: HostRuntime) -> io::Result<()> {

@@ -1,7 +1,7 @@
 // The schedule program's records and lines, on lent bytes: which action the bytes of a record ask for, and the line of an answer put
 // into a buffer. Document 01, "Schedule program".
 //
-// What can be read and written is outside every promise, so the program above only reads blocks, calls this and writes blocks, and all
+// What comes from outside and goes there is no matter of this crate: the program above reads blocks, calls this and writes blocks, and all
 // that decides what a record means and what a line says is here. The promises cite specs/Schedule of `definition`, which gives both as
 // lists of bytes: a record is whole or it is broken, and a text is put where the one before it ends.
 #![tactic(auto)]
@@ -20,7 +20,7 @@ pub enum Action {
     Call(u64, Call),
 }
 
-// The actions whose record says nothing else: a register has participant 0, and only a defer has a token.
+// The actions that have rules of their own: a register has participant 0, and only a defer has a token.
 const REGISTER: u8 = 1;
 
 const DEFER: u8 = 7;
@@ -49,13 +49,13 @@ fn name(action: u8, participant: u64, token: u64) -> Option<Action>
 {
     let named = match action {
         0 => Action::Step(participant, false),
-        1 => Action::Register,
+        REGISTER => Action::Register,
         2 => Action::Call(participant, Call::Acquire),
         3 => Action::Call(participant, Call::Release),
         4 => Action::Call(participant, Call::Pin),
         5 => Action::Call(participant, Call::Unpin),
         6 => Action::Call(participant, Call::Repin),
-        7 => Action::Call(participant, Call::Defer(token)),
+        DEFER => Action::Call(participant, Call::Defer(token)),
         8 => Action::Call(participant, Call::Flush),
         9 => Action::Step(participant, true),
         _ => return None,

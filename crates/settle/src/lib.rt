@@ -22,7 +22,7 @@ pub fn settle(l: &mut ListsMut<'_>, p: usize, k: usize, work: Work, freed: &mut 
     match work {
         Work::Nothing => 0,
         Work::Put(item) => {
-            // What it answers, the places left, a defer has from its record (flow, `placed_token`); others do not ask.
+            // What it answers, the places left, a defer has from its record (flow, `placed`); others do not ask.
             put_item(l.held, p, k, item);
             0
         }

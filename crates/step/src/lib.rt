@@ -17,14 +17,12 @@ use definition::{Answer, Node, Slot};
 use flow::links::node_at;
 use follow::follow;
 use internal::{asks_at, follows_at};
-use lent::{ListsMut, NODE_WORDS};
+use lent::{ListsMut, NODE_WORDS, SEAL};
 use records::load;
 use words::perform;
 
-// Where the seal stands in a node's row: after its next.
-const SEAL: usize = 1;
-
 // Returns the seal of the bag in the node that a word names, of `m` nodes. Where it names none there is no seal to look at: 0.
+// (No Option: it is total as `bag_seal` is, since the definition's table of bags, `bag_from` of specs/Layout, has 0 beyond the list.)
 fn seal_of(nodes: &[u64], m: usize, value: u64) -> u64
     requires { length nodes.now ≡ m * 3 }
     ensures { result ≡ bag_seal nodes.now (index value) }
@@ -53,5 +51,5 @@ pub fn take_step(l: &mut ListsMut<'_>, p: usize, marked: bool, freed: &mut [u64]
     let seen = perform(l, ask, marked);
     let seal = seal_of(l.read().nodes, m, seen.value);
     let after = follows_at(me, Node(spare as u64), seal, o, seen);
-    follow(l, p, o.held as usize, o.share, after, freed)
+    follow(l, p, o, after, freed)
 }

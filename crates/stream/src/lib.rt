@@ -1,4 +1,4 @@
-// Reading input block by block and writing numbers, for the programs, at any reader and any writer.
+// A program's input block by block, and a number written, at any reader and any writer.
 //
 // What comes from the system and goes to it is outside every promise; where a reader or a writer says which bytes it has, as one over
 // memory does, the promises here say which of them move.
@@ -50,7 +50,7 @@ pub fn read_full<R: Read>(reader: &mut R, buf: &mut [u8]) -> io::Result<usize>
     Ok(done)
 }
 
-// Writes a number in decimal, with no line end.
+// Writes a number in decimal, with no line end. (The programs write by `write!`; two edits and two tests hold this to what that promises.)
 pub fn write_decimal<W: Write>(writer: &mut W, v: u64) -> io::Result<()>
     ensures { OnOk result (Appends (W.contents writer.old) (W.contents writer.new) (decimal v)) }
 {

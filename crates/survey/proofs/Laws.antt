@@ -1,4 +1,5 @@
 -- The survey: what is read of two lists is the report of the definition, in tables for any number of participants. Assumes nothing.
+use mathlib.Core.Logic.{◌⊎◌, inl, inr}
 use mathlib.Core.Path.{◌≡◌, ap, ◌∙◌}
 use mathlib.Core.List.{List}
 use Prim.Native.Nat.{ℕ, ◌+◌, ◌*◌, ◌<◌}
@@ -6,7 +7,7 @@ use native.Mathlib.Omega.{arith}
 use lib.IntN.{ℤ}
 use lib.Dec.{eqb}
 use lib.ListN.{get_or}
-use borrow.Author.Tests.{lt-ltb, ne_eqb}
+use borrow.Author.Tests.{lt-ltb}
 use Rattle.epoch.specs.Epoch.{wrapping_sub}
 use Rattle.definition.specs.Base.{branch}
 use Rattle.definition.specs.Codec.{participant_of}
@@ -19,6 +20,8 @@ use Rattle.bits.proofs.Laws.{bit_words-has}
 use Rattle.checks.specs.Refusals.{row}
 use Rattle.ranges.proofs.Laws.{link_cell}
 use Rattle.definition.specs.declared.Report.{Report}
+use Rattle.survey.specs.States.{state_number}
+use Rattle.survey.specs.declared.State.{State}
 use Rattle.survey.specs.Surveys.{blank, report_in}
 
 -- a participant's word is the first of its row
@@ -42,20 +45,23 @@ report-words : (g ps : List ℕ) (p : ℕ) → report_in g ps p
 unfolding report_in report_of state_of tables_of shared_from participant_of
 report-words g ps p = rw (word-cell ps p, link_cell ps p)
 
-pub free-alone : (g ps : List ℕ) (p s : ℕ) → s ≡ state_at g ps p → s ≡ 0 → blank s ≡ report_in g ps p
-unfolding branch
-free-alone g ps p s e h = rw (report-words g ps p, ← e, h)
+-- free or deleted: its state alone; registering or registered: all of it
+pub state_alone : (g ps : List ℕ) (p : ℕ) (s : State) → state_number s ≡ state_at g ps p → (s ≡ State.Free) ⊎ (s ≡ State.Deleted)
+    → blank (state_number s) ≡ report_in g ps p
+unfolding branch state_number
+state_alone g ps p s e = elim [
+  | inl h ↦ rw (report-words g ps p, ← e, h)
+  | inr h ↦ rw (report-words g ps p, ← e, h)
+]
 
-pub deleted-alone : (g ps : List ℕ) (p s : ℕ) → s ≡ state_at g ps p → s ≡ 3 → blank s ≡ report_in g ps p
-unfolding branch
-deleted-alone g ps p s e h = rw (report-words g ps p, ← e, h)
-
-pub all-said : (g ps : List ℕ) (p s : ℕ) (o : Participant) (d : ℤ) → s ≡ state_at g ps p → (s ≡ 0 → ⊥) → (s ≡ 3 → ⊥)
-    → o ≡ row ps p → d ≡ wrapping_sub (get_or g 0 0) (get_or ps (p * 21) 0)
-    → record { state = s; guards = o.counts.guards; handles = o.counts.handles; held = o.held; distance = d } ≡ report_in g ps p
-unfolding branch
-all-said g ps p s o d e free deleted own dist =
-    rw (own, dist, report-words g ps p, ← e, ne_eqb s 0 free, ne_eqb s 3 deleted)
+pub all_said : (g ps : List ℕ) (p : ℕ) (s : State) (o : Participant) (d : ℤ) → state_number s ≡ state_at g ps p
+    → (s ≡ State.Registering) ⊎ (s ≡ State.Registered) → o ≡ row ps p → d ≡ wrapping_sub (get_or g 0 0) (get_or ps (p * 21) 0)
+    → record { state = state_number s; guards = o.counts.guards; handles = o.counts.handles; held = o.held; distance = d } ≡ report_in g ps p
+unfolding branch state_number
+all_said g ps p s o d e = elim [
+  | inl h ↦ λ own dist. rw (own, dist, report-words g ps p, ← e, h)
+  | inr h ↦ λ own dist. rw (own, dist, report-words g ps p, ← e, h)
+]
 
 -- the same slot, among any number of them that it is one of
 slot_any : (N p : ℕ) (g : List ℕ) → p < N → slot_bits (p + 1) g p ≡ slot_bits N g p

@@ -4,10 +4,12 @@
 // them, one after another. The public call, which joins the check and the reports, is in `reclaimer`.
 #![tactic(auto)]
 
-ghost use Rattle.std.specs.Prelude.{◌≡◌, ◌++◌, ◌+◌, ◌*◌, ◌/◌, ◌≤◌, ◌<◌, length, drop, MatchResult};
+ghost use Rattle.std.specs.Prelude.{◌≡◌, ◌++◌, ◌+◌, ◌-◌, ◌*◌, ◌/◌, ◌≤◌, ◌<◌, length, drop, MatchResult};
 ghost use Rattle.definition.specs.Base.{branch};
+ghost use Rattle.definition.specs.Ranges.{bit_words};
 ghost use Rattle.lent.specs.Lists.{read};
 ghost use Rattle.refusals.specs.Numbers.{number};
+ghost use Rattle.survey.specs.States.{state_number};
 ghost use Rattle.survey.specs.Surveys.{blank, tabulate, report_in, survey_refusal};
 
 use checks::{Whole, slot_free};
@@ -15,41 +17,56 @@ use definition::Report;
 use epoch::Epoch;
 use flow::links::is_tagged;
 use internal::places::is_register;
-use lent::{GLOBAL_EPOCH, Lists, PARTICIPANT_WORDS};
+use lent::{ENTRY_NEXT, GLOBAL_EPOCH, Lists, PARTICIPANT_WORDS};
 use records::load;
 use refusals::{Refusal, refuse_if};
 
-// The states of a slot, as document 01 numbers them. They stay numbers: the list of reports is the caller's, and may hold anything before.
-const FREE: u64 = 0;
+// The states of a slot.
+#[derive(Clone, Copy, Debug, PartialEq, Eq)]
+pub enum State {
+    Free,
+    Registering,
+    Registered,
+    Deleted,
+}
 
-const REGISTERING: u64 = 1;
+// A state as a report has it: document 01's number. (The list of reports is the caller's, and may hold any word before.)
+#[tactic(auto, unfolding(crate::specs::States::state_number))]
+impl From<State> for u64 {
+    ghost from_gives = { λ s n. n ≡ state_number s };
 
-const REGISTERED: u64 = 2;
-
-const DELETED: u64 = 3;
+    fn from(s: State) -> u64 {
+        match s {
+            State::Free => 0,
+            State::Registering => 1,
+            State::Registered => 2,
+            State::Deleted => 3,
+        }
+    }
+}
 
 // Returns the state.
-#[tactic(auto, unfolding(definition::specs::Base::branch))]
-fn state_of(free: bool, deleted: bool, registering: bool) -> u64
-    ensures { result ≡ branch free 0 (branch deleted 3 (branch registering 1 2)) }
+#[tactic(auto, unfolding(definition::specs::Base::branch, crate::specs::States::state_number))]
+fn state_of(free: bool, deleted: bool, registering: bool) -> State
+    ensures { state_number result ≡ branch free 0 (branch deleted 3 (branch registering 1 2)) }
 {
     if free {
-        FREE
+        State::Free
     } else if deleted {
-        DELETED
+        State::Deleted
     } else if registering {
-        REGISTERING
+        State::Registering
     } else {
-        REGISTERED
+        State::Registered
     }
 }
 
 // Returns a report of which the state is all that is said.
-fn blank(state: u64) -> Report
-    ensures { result ≡ blank state }
+fn blank(state: State) -> Report
+    ensures { result ≡ blank (state_number state) }
 {
     Report {
-        state,
+        state: u64::from(state),
         guards: 0,
         handles: 0,
         held: 0,
@@ -66,30 +83,30 @@ pub fn report_of(globals: &[u64], participants: &[u64], p: usize) -> Report
 {
     // any number of slots that p is one of will do
     let free = slot_free(globals, p + 1, p);
-    let next = participants[p * PARTICIPANT_WORDS + 1];
+    let next = participants[p * PARTICIPANT_WORDS + ENTRY_NEXT];
     let o = load(participants, p);
     let state = state_of(free, is_tagged(next), is_register(o.place));
-    if state == FREE || state == DELETED {
-        return blank(state);
-    }
     let global = Epoch(globals[GLOBAL_EPOCH]);
     let word = Epoch(participants[p * PARTICIPANT_WORDS]);
-    Report {
-        state,
-        guards: o.counts.guards,
-        handles: o.counts.handles,
-        held: o.held,
-        distance: global.wrapping_sub(word),
+    match state {
+        State::Free | State::Deleted => blank(state),
+        State::Registering | State::Registered => Report {
+            state: u64::from(state),
+            guards: o.counts.guards,
+            handles: o.counts.handles,
+            held: o.held,
+            distance: global.wrapping_sub(word),
+        },
     }
 }
 
-// Fills the first `n` places of the list with the reports of the first `n` participants.
-pub fn fill_reports(whole: Whole<'_>, list: &mut [Report])
-    requires { whole.lists.n ≤ length list.old }
-    ensures { list.new ≡ tabulate (report_in whole.entry.lists.globals.now whole.entry.lists.participants.now) whole.entry.lists.n
-        ++ drop whole.entry.lists.n list.old }
+// Fills the places of the first participants with their reports, one for each. (It asks for the words that it reads, not for lists that are whole;
+// and writes by index, since what is written through `iter_mut` is lost to the proof.)
+#[tactic(auto, unfolding(definition::specs::Ranges::bit_words))]
+pub fn fill_reports(l: Lists<'_>, list: &mut [Report])
+    requires { (l.n ≤ length list.old) × ((bit_words l.n ≤ length l.globals.now - 5) × (l.n * 21 ≤ length l.participants.now)) }
+    ensures { list.new ≡ tabulate (report_in l.entry.globals.now l.entry.participants.now) l.entry.n ++ drop l.entry.n list.old }
 {
-    let l = whole.lists;
     for p in 0..l.n {
         list[p] = report_of(l.globals, l.participants, p);
     }

@@ -16,11 +16,9 @@ ghost use Rattle.words.specs.Words.{named, word_in, word_of, write_lent, Made};
 
 use definition::{Ask, Seen, Word};
 use lent::{
-    GLOBAL_EPOCH, LIST_HEAD, Lists, ListsMut, NODE_WORDS, PARTICIPANT_WORDS, QUEUE_HEAD, QUEUE_TAIL,
+    ENTRY_NEXT, GLOBAL_EPOCH, LIST_HEAD, Lists, ListsMut, NODE_WORDS, PARTICIPANT_WORDS,
+    QUEUE_HEAD, QUEUE_TAIL,
 };
-
-// Where its entry's next stands in a participant's row: after its epoch.
-const ENTRY_NEXT: usize = 1;
 
 // Returns the value of a shared word.
 pub fn read_word(l: Lists<'_>, w: Word) -> u64

@@ -6,7 +6,7 @@ use Rattle.survey.proofs.Tab.{tab_none, tab_more}
 use Rattle.survey.proofs.fill_reports.Goals as goal
 
 pub loop-p-init : goal.loop-p-init
-loop-p-init c = tab_none (report_in c.args.whole.lists.globals.now c.args.whole.lists.participants.now) c.args.list.now
+loop-p-init c = tab_none (report_in c.args.l.globals.now c.args.l.participants.now) c.args.list.now
 
 -- storing the report of participant k into a list that has those of the k before it
 stored : (f : ℕ → Report) (ys l : List Report) (r : Report) (k : ℕ) → l ≡ tabulate f k ++ drop k ys → r ≡ f k → k < length ys
@@ -15,6 +15,6 @@ stored f ys l r k was is h = rw (was, is, add-one) (tab_more f ys k h)
 
 pub loop-p-preserved : goal.loop-p-preserved
 loop-p-preserved c =
-    let w = c.args.whole.lists in
+    let a = c.args in
     let l = c.loop-p in
-    stored (report_in w.globals.now w.participants.now) c.args.list.now l.list c.report_of.result l.p l.invariant c.report_of.ensures (omega arith)
+    stored (report_in a.l.globals.now a.l.participants.now) a.list.now l.list c.report_of.result l.p l.invariant c.report_of.ensures (omega arith)

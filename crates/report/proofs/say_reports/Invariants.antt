@@ -2,7 +2,7 @@
 use Rattle.std.proofs.Common.{take}
 use Rattle.std.specs.Io.KnownBytes.{Appends}
 use Rattle.report.specs.Lines.{lines_of}
-use Rattle.report.proofs.say_survey.Given as goal
+use Rattle.report.proofs.say_reports.Given as goal
 
 abbrev pub invariant-loop-p : goal.invariant-loop-p
-invariant-loop-p g l = Appends (g.W.Write.contents l.initial.writer) (g.W.Write.contents l.writer) (lines_of 0 (take l.p l.fn.s.reports))
+invariant-loop-p g l = Appends (g.W.Write.contents l.initial.writer) (g.W.Write.contents l.writer) (lines_of 0 (take l.p l.fn.reports))
