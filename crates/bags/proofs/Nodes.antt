@@ -1,12 +1,14 @@
 -- The lists that hold bags, in the definition's terms: a participant's bag with an item put into it, the bag that a node's row and items
 -- say, a bag sealed into a node, and a bag emptied. Assumes nothing.
 use mathlib.Core.Path.{◌≡◌, sym, ap, ◌∙◌, fun_ext}
-use mathlib.Core.List.{List}
-use Prim.Native.Nat.{ℕ, ◌+◌, ◌*◌, ◌≤◌, ◌<◌}
+use mathlib.Core.List.{List, [], ◌∷◌}
+use Prim.Native.Nat.{ℕ, suc, ◌+◌, ◌*◌, ◌≤◌, ◌<◌}
 use native.Mathlib.Nat.{add-zero}
 use native.Mathlib.Omega.{arith}
 use lib.ListN.{length, set, drop, length-set}
-use lib.Seq.{paste}
+use lib.Seq.{paste, sets-eq, drop-drop}
+use borrow.Rule.Slice.PartMut.{put_mid}
+use Rattle.std.proofs.Common.{append_assoc}
 use Rattle.definition.specs.Base.{Tab, put}
 use Rattle.definition.specs.Links.{null}
 use Rattle.definition.specs.Bags.{max_objects, SealedBag, items, moved}
@@ -76,6 +78,14 @@ module _ (l : List ℕ) (n e k : ℕ) (fits : n * 3 + 3 ≤ length l) where
   stamped_is : stamped l n e k ≡ set second (n * 3 + 2) k
   unfolding stamped first second
   stamped_is = rw add-zero
+
+  -- the row written as one is the three stores
+  pub row_stamped : (w : ℕ) (ws : List ℕ) → ws ≡ 0 ∷ e ∷ k ∷ [] → w ≡ 3 → put_mid (n * 3) w l ws ≡ stamped l n e k
+  unfolding stamped null
+  row_stamped w ws is three =
+      sym (ap (λ (a : ℕ). set (set (set l (n * 3) 0) a e) (n * 3 + 2) k) (omega arith)
+      ∙ ap (λ (a : ℕ). set (set (set l (n * 3) 0) (suc (n * 3)) e) a k) (omega arith)
+      ∙ sets-eq (0 ∷ e ∷ k ∷ []) l (n * 3) (omega arith) ∙ rw (is, three, drop-drop, append_assoc))
 
   -- all of them as long as it was
   length_first : length first ≡ length l

@@ -6,19 +6,21 @@
 // node or a slot, whose index is free again.
 #![tactic(auto)]
 
-ghost use Rattle.std.specs.Prelude.{◌≡◌, true, [], ◌∷◌, ◌+◌, ◌*◌, ◌^◌, ◌≤◌, ◌<◌, length, set, drop};
+ghost use Rattle.std.specs.Prelude.{◌≡◌, true, [], ◌∷◌, ◌+◌, ◌*◌, ◌^◌, ◌≤◌, ◌<◌, length, set};
 ghost use Rattle.std.proofs.Math.Seq.{paste};
 ghost use Rattle.definition.specs.Base.{among};
 ghost use Rattle.definition.specs.Bags.{places_left, item_word, item_of, items, tokens};
 ghost use Rattle.bits.specs.Bits.{words_at, words_of};
 ghost use Rattle.bags.specs.Bags.{stamped, bag_len, bag_items, filled, free_items, have_bits};
 
+use bits::FreeBits;
 use definition::{Item, Node, Slot};
 use epoch::Epoch;
 use flow::Bag;
+use flow::links::NULL;
 use lent::{BAG_LEN, BAG_WORDS, NODE_WORDS};
 
-// Returns the word that stands for an item; it must be one.
+// Returns the word that stands for an item; it must be one, and since `From` could not ask that, this and its inverse are functions.
 #[tactic(auto, unfolding(definition::specs::Bags::item_word))]
 pub fn item_word(item: Item) -> u64
     requires { item_word item < 2 ^ 64 }
@@ -44,14 +46,14 @@ pub fn item_of(w: u64) -> Item
     }
 }
 
-// Puts an item behind the `k` items of participant `p`'s bag, which has room. Returns the places left after it.
-// (It takes the list and not the bag's row, since it writes one word: lent the row, `settle` would have to show the rest unchanged, in two arms.)
-pub fn put_item(held: &mut [u64], p: usize, k: usize, item: Item) -> u64
+// Puts an item behind the `k` items of a bag, which has room. Returns the places left after it.
+// (The words lent begin with the bag's first. `settle` lends all that follow too, for it is sure of no place behind the item's.)
+pub fn put_item(bag: &mut [u64], k: usize, item: Item) -> u64
     requires k_bound { k < 64 }
-    requires k_in_bounds { (p * 64 + k < length held.old) × (item_word item < 2 ^ 64) }
-    ensures { (result ≡ places_left (k + 1)) × (held.new ≡ set held.old (p * 64 + k) (item_word item)) }
+    requires k_in_bounds { (k < length bag.old) × (item_word item < 2 ^ 64) }
+    ensures { (result ≡ places_left (k + 1)) × (bag.new ≡ set bag.old k (item_word item)) }
 {
-    held[p * BAG_WORDS + k] = item_word(item);
+    bag[k] = item_word(item);
     Bag::places_left(k as u64 + 1)
 }
 
@@ -73,45 +75,29 @@ fn is_token(w: u64, token: u64) -> bool
     }
 }
 
-// Moves participant `p`'s bag of `k` items into a node and seals it with `e`. The node's next is null.
-// (It takes the three lists that it touches, not a `&mut ListsMut`: it leaves the other two alone, and says so by not having them.)
-pub fn seal_bag(
-    held: &[u64],
-    p: usize,
-    k: usize,
-    nodes: &mut [u64],
-    queued: &mut [u64],
-    node: usize,
-    e: Epoch,
-)
-    requires { (p * 64 + k ≤ length held.now) × ((node * 3 + 3 ≤ length nodes.old) × (node * 64 + k ≤ length queued.old)) }
-    ensures { (nodes.new ≡ stamped nodes.old node e.0 k)
-        × (queued.new ≡ paste queued.old (node * 64) (drop (p * 64) held.now) k) }
+// Moves a bag, lent alone, into a node and seals it with `e`. The node's next is null.
+// (It takes the two lists that it writes, not a `&mut ListsMut`, of which the bag that it reads is a part: the two could not be lent at once. It asks for
+// the node's rows by their bounds: of a list whose row was lent by `as_chunks_mut` nothing is known afterwards.)
+#[tactic(auto, using(crate::proofs::Nodes::row_stamped))]
+pub fn seal_bag(bag: &[u64], nodes: &mut [u64], queued: &mut [u64], node: usize, e: Epoch)
+    requires { (node * 3 + 3 ≤ length nodes.old) × (node * 64 + length bag.now ≤ length queued.old) }
+    ensures row { nodes.new ≡ stamped nodes.old node e.0 (length bag.now) }
+    ensures items { queued.new ≡ paste queued.old (node * 64) bag.now (length bag.now) }
 {
-    let from = p * BAG_WORDS;
-    let to = node * BAG_WORDS;
-    queued[to..to + k].copy_from_slice(&held[from..from + k]);
-    stamp(nodes, node, e, k);
+    let row = node * NODE_WORDS;
+    let at = node * BAG_WORDS;
+    queued[at..at + bag.len()].copy_from_slice(bag);
+    nodes[row..row + NODE_WORDS].copy_from_slice(&[NULL, e.0, bag.len() as u64]);
 }
 
-// Writes a node's row: no next, the seal, the length.
-#[tactic(auto, unfolding(crate::specs::Bags::stamped, definition::specs::Links::null))]
-fn stamp(nodes: &mut [u64], node: usize, e: Epoch, k: usize)
-    requires { node * 3 + 3 ≤ length nodes.old }
-    ensures { nodes.new ≡ stamped nodes.old node e.0 k }
-{
-    let at = node * NODE_WORDS;
-    nodes[at] = 0;
-    nodes[at + 1] = e.0;
-    nodes[at + 2] = k as u64;
-}
-
-// Frees every item of a node's bag, first to last, for `n` participants: a token goes to the next place of `freed`, from its front, and a
+// Frees every item of a node's bag, first to last, for `n` participants and `m` nodes: a token goes to the next place of `freed`, from its front, and a
 // node or a slot is free again. The bag is then empty. Returns the number of tokens.
-// (It takes the three lists that it touches, not a `&mut ListsMut`: it leaves the other two alone, and says so by not having them.)
+// (It takes the lists that it touches, not a `&mut ListsMut`: it leaves the other two alone, and by not having them it need not promise that. It asks for
+// the node's rows by their bounds, as `seal_bag` does.)
 pub fn free_bag(
     globals: &mut [u64],
     n: usize,
+    m: usize,
     nodes: &mut [u64],
     queued: &[u64],
     node: usize,
@@ -136,8 +122,8 @@ pub fn free_bag(
                 freed[t] = token;
                 t += 1;
             }
-            Item::Node(Node(i)) => bits::give(globals, bits::node_bits_at(n), i as usize),
-            Item::Slot(Slot(i)) => bits::give(globals, bits::slot_bits_at(), i as usize),
+            Item::Node(Node(i)) => FreeBits::nodes(n, m).give(globals, i as usize),
+            Item::Slot(Slot(i)) => FreeBits::slots(n).give(globals, i as usize),
         }
     }
     nodes[len_at] = 0;

@@ -201,17 +201,6 @@ pub bits_in_is : (N M n : ℕ) (f : Tab Bool) → bits_in N M n f ≡ within (bi
 unfolding bits_in
 bits_in_is N M n f = refl
 
--- with none set beyond, as many of the bits are set as slots are free, and as nodes are
-pub slots_counted : (N : ℕ) (g : List ℕ) → within (bit_words N) N (slot_bits N g) ≡ true
-    → count (64 * bit_words N) (slot_bits N g) ≡ count N (slot_bits N g)
-unfolding slot_bits
-slots_counted N g h = count_end (bit_words N) (words_at g global_words) N h
-
-pub nodes_counted : (N M : ℕ) (g : List ℕ) → within (bit_words M) M (node_bits N M g) ≡ true
-    → count (64 * bit_words M) (node_bits N M g) ≡ count M (node_bits N M g)
-unfolding node_bits
-nodes_counted N M g h = count_end (bit_words M) (words_at g (global_words + bit_words N)) M h
-
 -- the words before the bits stay when one is written
 pub early_mark : (g : List ℕ) (at i : ℕ) (b : Bool) → global_words ≤ at → (j : ℕ) → j < global_words → get_or (marked g at i b) j 0 ≡ get_or g j 0
 early_mark g at i b from j h = marked_other g at i b j (λ e. omega arith)

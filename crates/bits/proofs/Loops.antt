@@ -1,9 +1,9 @@
--- What a turn of each loop does to what its function promises: word j of k words, with the words before it done. Assumes nothing.
+-- What word j of k words does to what a function promises that looks at one after another, with the words before it done. Assumes nothing.
 use mathlib.Core.Path.{◌≡◌, refl, sym, ap, ◌∙◌}
 use mathlib.Core.Bool.{Bool, true, false, ◌&&◌}
 use mathlib.Core.List.{List, [], ◌∷◌}
 use Prim.Native.Nat.{ℕ, zero, suc, ◌+◌, ◌-◌, ◌*◌, ◌/◌, ◌%◌, ◌^◌, ◌≤◌, ◌<◌}
-use native.Mathlib.Nat.{add-zero, div-one}
+use native.Mathlib.Nat.{add-zero, div-one, le_refl}
 use native.Mathlib.Numerals.{add-one}
 use native.Mathlib.Omega.{arith}
 use lib.Count.{count_trailing_zeros, ones}
@@ -18,9 +18,9 @@ use Rattle.definition.specs.Base.{branch, Tab, sum, count, all, least}
 use Rattle.definition.specs.Layout.{bit, bits}
 use Rattle.definition.proofs.Base.{branch_same, all_at, all_intro}
 use Rattle.bits.specs.Bits.{words_of, bits_of, within}
-use Rattle.bits.proofs.Table.{below?, count_ext, count-add, all_ext, all_add, least_at}
+use Rattle.bits.proofs.Table.{below?, count_ext, count-add, all_ext, all_add, least_at, least_none}
 use Rattle.bits.proofs.Word.{bit_high, lowest_lt, lowest_set, lowest_below, count-bits, none_beyond}
-use Rattle.bits.proofs.Laws.{bits_at, inside}
+use Rattle.bits.proofs.Laws.{bits_at, bits_out, inside}
 
 -- an index from 64j on is one of word j or later
 in_word : (k : ℕ) (words : Tab ℕ) (j i : ℕ) → j < k → 64 * j ≤ i → i < 64 * j + 64 → bits k words i ≡ bit (words j) (i - 64 * j)
@@ -28,17 +28,24 @@ in_word k words j i h a z =
     let there : 64 * j + (i - 64 * j) ≡ i = omega arith in
     ap (bits k words) (sym there) ∙ bits_at k words j (i - 64 * j) h (omega arith)
 
-module _ (k : ℕ) (words : Tab ℕ) (j : ℕ) (h : j < k) where
-  -- `first_free` goes on: word j is 0
-  pub first_later : words j ≡ 0 → ((i : ℕ) → i < 64 * j → bits k words i ≡ false) → (i : ℕ) → i < 64 * (j + 1) → bits k words i ≡ false
-  first_later e before i l =
-      below? i (64 * j) (before i) (λ g.
-      in_word k words j i h g (omega arith) ∙ ap (λ (w : ℕ). bit w (i - 64 * j)) e ∙ bit_high 0 (i - 64 * j) (pow_pos (i - 64 * j)))
+-- words that are 0 have no set bit
+pub clear_below : (k : ℕ) (words : Tab ℕ) (j : ℕ) → j ≤ k → ((i : ℕ) → i < j → words i ≡ 0) → (i : ℕ) → i < 64 * j → bits k words i ≡ false
+clear_below k words j h z i l =
+    let word : i / 64 < j = omega arith in
+    in_word k words (i / 64) i (omega arith) (omega arith) (omega arith) ∙ ap (λ (w : ℕ). bit w (i - 64 * (i / 64))) (z (i / 64) word)
+    ∙ bit_high 0 (i - 64 * (i / 64)) (pow_pos (i - 64 * (i / 64)))
 
-  -- it stops: word j is not 0
+-- and where every word is 0 none is free
+pub none_free : (ws : List ℕ) (n : ℕ) → ((i : ℕ) → i < length ws → get_or ws i 0 ≡ 0) → n ≡ least n (bits_of ws)
+none_free ws n z = sym (least_none n (bits_of ws) (λ i l.
+    below? i (64 * length ws) (clear_below (length ws) (words_of ws) (length ws) (le_refl (length ws)) z i)
+    (bits_out (length ws) (words_of ws) i)))
+
+module _ (k : ℕ) (words : Tab ℕ) (j : ℕ) (h : j < k) where
+  -- `first_free`: word j is the first that is not 0
   pub first_here : words j < 2 ^ 64 → (words j ≡ 0 → ⊥) → (n : ℕ) → within k n (bits k words) ≡ true
-      → ((i : ℕ) → i < 64 * j → bits k words i ≡ false) → 64 * j + count_trailing_zeros 64 (words j) ≡ least n (bits k words)
-  first_here fits ne n w before = sym (least_at n f (64 * j + t) (inside k n f w (64 * j + t) (omega (arith, low)) on) on below)
+      → ((i : ℕ) → i < j → words i ≡ 0) → 64 * j + count_trailing_zeros 64 (words j) ≡ least n (bits k words)
+  first_here fits ne n w clear = sym (least_at n f (64 * j + t) (inside k n f w (64 * j + t) (omega (arith, low)) on) on below)
     where
       f : Tab Bool
       f = bits k words
@@ -54,7 +61,7 @@ module _ (k : ℕ) (words : Tab ℕ) (j : ℕ) (h : j < k) where
 
       below : (i : ℕ) → i < 64 * j + t → f i ≡ false
       below i l =
-          below? i (64 * j) (before i) (λ g.
+          below? i (64 * j) (clear_below k words j (omega arith) clear i) (λ g.
           in_word k words j i h g (omega (arith, low)) ∙ lowest_below 64 (words j) (i - 64 * j) (omega arith))
 
   -- `count_free` counts word j

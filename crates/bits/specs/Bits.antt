@@ -2,7 +2,9 @@
 -- the definition's `bits`; proofs/Laws ties the two together. Assumes nothing.
 use Rattle.std.specs.Prelude.{Bool, true, false, List, ℕ, ◌+◌, ◌-◌, ◌*◌, ◌/◌, ◌%◌, ◌^◌, ltb, length, get_or, set}
 use Rattle.definition.specs.Base.{branch, Tab, all}
-use Rattle.definition.specs.Layout.{bits}
+use Rattle.definition.specs.Layout.{bits, global_words}
+use Rattle.definition.specs.Ranges.{bit_words}
+use Rattle.bits.specs.declared.FreeBits.{FreeBits}
 
 -- the words of a list from `at` on
 abbrev pub words_at : List ℕ → ℕ → Tab ℕ
@@ -14,6 +16,16 @@ words_of l = λ j. get_or l j 0
 
 abbrev pub bits_of : List ℕ → Tab Bool
 bits_of l = bits (length l) (words_of l)
+
+-- where the bits of N slots stand, and of M nodes, for N participants; and the bits that a list has there: the definition's `slot_bits` and `node_bits`
+abbrev pub slots : (N : ℕ) → FreeBits
+slots N = record { at = global_words; size = N }
+
+abbrev pub nodes : (N M : ℕ) → FreeBits
+nodes N M = record { at = global_words + bit_words N; size = M }
+
+abbrev pub free_in : FreeBits → List ℕ → Tab Bool
+free_in b l = bits (bit_words b.size) (words_at l b.at)
 
 -- whether none of the bits of k words is set at n or beyond: the definition's `bits_in`, where k is `bit_words n`
 abbrev pub within : ℕ → ℕ → Tab Bool → Bool

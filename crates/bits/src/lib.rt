@@ -1,17 +1,16 @@
 // Free bits: which slots and which nodes are free, as bits of 64-bit words in a lent list.
 //
-// In the Rust the allocator knows what is free; here a set bit says so. The bits of a table stand in some words of the list, side by side,
-// so slots and nodes share what reads and writes them. What reads them is lent these words alone, and promises over the table that `bits` of the
-// definition reads in them: the same as in the list (`bits_slice` of proofs/Laws). What writes one is lent the list and where the words
-// begin, since it leaves the rest of the list alone. Taking and giving are total: taking what is taken, and giving what is free, changes
-// nothing.
+// In the Rust the allocator knows what is free; here a set bit says so. The bits of a table stand in some words of the list, side by side:
+// `FreeBits` says which, so slots and nodes share what reads and writes them. It has no list of its own, since whoever writes a bit is lent
+// the list to change; so that the words are there is asked with each list. Each promise is over the bits that the list has there, `free_in`
+// of specs/Bits: the definition's `slot_bits` or `node_bits`. Taking and giving are total: taking what is taken, and giving what is free,
+// changes nothing.
 #![tactic(auto)]
 
-ghost use Rattle.std.specs.Prelude.{◌≡◌, true, ◌+◌, ◌*◌, ◌/◌, ◌≤◌, ◌<◌, length};
+ghost use Rattle.std.specs.Prelude.{◌≡◌, true, ◌+◌, ◌*◌, ◌/◌, ◌^◌, ◌≤◌, ◌<◌, ℕ, length, slice_index};
 ghost use Rattle.definition.specs.Base.{count, least};
-ghost use Rattle.definition.specs.Layout.{global_words, slot_bits, node_bits};
 ghost use Rattle.definition.specs.Ranges.{bit_words};
-ghost use Rattle.bits.specs.Bits.{bits_of, within, taken, given};
+ghost use Rattle.bits.specs.Bits.{bits_of, slots, nodes, free_in, within, taken, given};
 
 use lent::GLOBAL_WORDS;
 
@@ -23,68 +22,8 @@ pub fn bit_words(n: usize) -> usize
     n.div_ceil(64)
 }
 
-// Returns where the bits of the slots begin: after the words that are no bits.
-#[tactic(auto, unfolding(definition::specs::Layout::global_words))]
-pub fn slot_bits_at() -> usize
-    ensures { result ≡ global_words }
-{
-    GLOBAL_WORDS
-}
-
-// Returns where the bits of the nodes begin, for `n` participants: after those of the slots.
-#[tactic(auto, using(crate::proofs::Laws::bit_words_least), unfolding(definition::specs::Layout::global_words))]
-pub fn node_bits_at(n: usize) -> usize
-    ensures { result ≡ global_words + bit_words n }
-{
-    GLOBAL_WORDS + bit_words(n)
-}
-
-// Returns the words that have the bits of `n` slots.
-#[tactic(auto, using(crate::proofs::Laws::length_slice, crate::proofs::Laws::bits_slice), unfolding(definition::specs::Layout::slot_bits))]
-pub fn slot_bits(globals: &[u64], n: usize) -> &[u64]
-    requires { global_words + bit_words n ≤ length globals.now }
-    ensures words { length result.now ≡ bit_words n }
-    ensures bits { bits_of result.now ≡ slot_bits n globals.now }
-{
-    let at = slot_bits_at();
-    &globals[at..at + bit_words(n)]
-}
-
-// Returns the words that have the bits of `m` nodes, for `n` participants.
-#[tactic(auto, using(crate::proofs::Laws::length_slice, crate::proofs::Laws::bits_slice), unfolding(definition::specs::Layout::node_bits))]
-pub fn node_bits(globals: &[u64], n: usize, m: usize) -> &[u64]
-    requires { global_words + bit_words n + bit_words m ≤ length globals.now }
-    ensures words { length result.now ≡ bit_words m }
-    ensures bits { bits_of result.now ≡ node_bits n m globals.now }
-{
-    let at = node_bits_at(n);
-    &globals[at..at + bit_words(m)]
-}
-
-// Returns the smallest free index below `n`, or `n` where none is free, as the definition's `least` does (so it is no `Option`): the lowest set bit
-// of the first word that has one.
-pub fn first_free(words: &[u64], n: usize) -> usize
-    requires few { length words.now ≤ 64 }
-    requires none_beyond { within (length words.now) n (bits_of words.now) ≡ true }
-    ensures { result ≡ least n (bits_of words.now) }
-{
-    for (j, w) in words.iter().enumerate() {
-        if *w != 0 {
-            return 64 * j + w.trailing_zeros() as usize;
-        }
-    }
-    n
-}
-
-// Returns how many indices are free: with no bit set at n or beyond, that is how many of those below n (`count_end` of proofs/Laws).
-pub fn count_free(words: &[u64]) -> u64
-    requires few { length words.now ≤ 64 }
-    ensures { result ≡ count (64 * length words.now) (bits_of words.now) }
-{
-    words.iter().map(|w| u64::from(w.count_ones())).sum()
-}
-
-// Returns whether no bit at `n` or beyond is set. Only the word that has bit `n`, from that bit on, and those after it are looked at.
+// Returns whether no bit at `n` or beyond is set. Only the word that has bit `n`, from that bit on, and those after it are looked at. (It takes any
+// words; of as many as `n` bits take, the word that has bit `n` is the last.)
 pub fn bits_in(words: &[u64], n: usize) -> bool
     ensures { result ≡ within (length words.now) n (bits_of words.now) }
 {
@@ -95,20 +34,110 @@ pub fn bits_in(words: &[u64], n: usize) -> bool
     words[j] >> (n % 64) == 0 && words[j + 1..].iter().all(|w| *w == 0)
 }
 
-// Takes index `i`: it is no longer free.
-#[tactic(auto, using(crate::proofs::Laws::taken_is))]
-pub fn take(globals: &mut [u64], at: usize, i: usize)
-    requires { at + i / 64 < length globals.old }
-    ensures { globals.new ≡ taken globals.old at i }
-{
-    globals[at + i / 64] &= !(1 << (i % 64));
+// The free bits of a table of `size` indices: in the words of the list from `at` on.
+#[derive(Clone, Copy)]
+pub struct FreeBits {
+    pub at: usize,
+    pub size: usize,
 }
 
-// Gives index `i` back: it is free.
-#[tactic(auto, using(crate::proofs::Laws::given_is))]
-pub fn give(globals: &mut [u64], at: usize, i: usize)
-    requires { at + i / 64 < length globals.old }
-    ensures { globals.new ≡ given globals.old at i }
-{
-    globals[at + i / 64] |= 1 << (i % 64);
+impl FreeBits {
+    // Returns where the bits of `n` slots stand: after the words that are no bits.
+    #[tactic(auto, unfolding(definition::specs::Layout::global_words))]
+    pub fn slots(n: usize) -> FreeBits
+        ensures { result ≡ slots n }
+    {
+        FreeBits {
+            at: GLOBAL_WORDS,
+            size: n,
+        }
+    }
+
+    // Returns where the bits of `m` nodes stand, for `n` participants: after those of the slots.
+    #[tactic(auto, using(crate::proofs::Laws::bit_words_least), unfolding(definition::specs::Layout::global_words))]
+    pub fn nodes(n: usize, m: usize) -> FreeBits
+        ensures { result ≡ nodes n m }
+    {
+        FreeBits {
+            at: GLOBAL_WORDS + bit_words(n),
+            size: m,
+        }
+    }
+
+    // Returns the words that have the bits.
+    #[tactic(auto, using(crate::proofs::Laws::length_slice, crate::proofs::Laws::bits_slice))]
+    fn words(self, globals: &[u64]) -> &[u64]
+        requires { self.at + bit_words self.size ≤ length globals.now }
+        ensures words { length result.now ≡ bit_words self.size }
+        ensures bits { bits_of result.now ≡ free_in self globals.now }
+        ensures fit { (j : ℕ) → slice_index result.now j < 2 ^ 64 }
+    {
+        &globals[self.at..self.at + bit_words(self.size)]
+    }
+
+    // Returns whether index `i` is free.
+    pub fn is_free(self, globals: &[u64], i: usize) -> bool
+        requires { (i < self.size) × (self.at + bit_words self.size ≤ length globals.now) }
+        ensures { result ≡ free_in self globals.now i }
+    {
+        (globals[self.at + i / 64] >> (i % 64)) % 2 == 1
+    }
+
+    // Returns the smallest free index, or `size` where none is free, as the definition's `least` does (so it is no `Option`): the lowest set bit
+    // of the first word that has one.
+    #[tactic(auto, unfolding(definition::specs::Ranges::bit_words))]
+    pub fn first_free(self, globals: &[u64]) -> usize
+        requires few { self.size ≤ 4096 }
+        requires there { self.at + bit_words self.size ≤ length globals.now }
+        requires none_beyond { within (bit_words self.size) self.size (free_in self globals.now) ≡ true }
+        ensures { result ≡ least self.size (free_in self globals.now) }
+    {
+        let words = self.words(globals);
+        match words.iter().position(|w| *w != 0) {
+            Some(j) => 64 * j + words[j].trailing_zeros() as usize,
+            None => self.size,
+        }
+    }
+
+    // Returns how many indices are free.
+    #[tactic(auto, unfolding(definition::specs::Ranges::bit_words))]
+    pub fn count_free(self, globals: &[u64]) -> u64
+        requires few { self.size ≤ 4096 }
+        requires there { self.at + bit_words self.size ≤ length globals.now }
+        requires none_beyond { within (bit_words self.size) self.size (free_in self globals.now) ≡ true }
+        ensures { result ≡ count self.size (free_in self globals.now) }
+    {
+        self.words(globals)
+            .iter()
+            .map(|w| u64::from(w.count_ones()))
+            .sum()
+    }
+
+    // Returns whether no bit at `size` or beyond is set.
+    pub fn in_range(self, globals: &[u64]) -> bool
+        requires { self.at + bit_words self.size ≤ length globals.now }
+        ensures { result ≡ within (bit_words self.size) self.size (free_in self globals.now) }
+    {
+        bits_in(self.words(globals), self.size)
+    }
+
+    // Takes index `i`: it is no longer free. (That the list still has words it says for `enroll`, which is lent more than this list, and then does
+    // not know it by itself.)
+    #[tactic(auto, using(crate::proofs::Laws::taken_is))]
+    pub fn take(self, globals: &mut [u64], i: usize)
+        requires { self.at + i / 64 < length globals.old }
+        ensures taken { globals.new ≡ taken globals.old self.at i }
+        ensures fit { (j : ℕ) → slice_index globals.new j < 2 ^ 64 }
+    {
+        globals[self.at + i / 64] &= !(1 << (i % 64));
+    }
+
+    // Gives index `i` back: it is free.
+    #[tactic(auto, using(crate::proofs::Laws::given_is))]
+    pub fn give(self, globals: &mut [u64], i: usize)
+        requires { self.at + i / 64 < length globals.old }
+        ensures { globals.new ≡ given globals.old self.at i }
+    {
+        globals[self.at + i / 64] |= 1 << (i % 64);
+    }
 }

@@ -28,7 +28,7 @@ use Rattle.ranges.proofs.Facts.{Facts, facts, RecordFacts, record_facts, bag-len
 use Rattle.follow.specs.Follow.{Follows, Followed}
 use Rattle.step.specs.Steps.{Leaves}
 use Rattle.step.proofs.Room.{Roomy, opens_room}
-use Rattle.step.proofs.Carry.{Carries, freed_in, may_carry, carried-leaves}
+use Rattle.step.proofs.Carry.{Carries, freed_in, opens_places, may_carry, carried-leaves}
 use Rattle.call.specs.Calls.{Calls}
 
 module _ (N M p : ℕ) (c : Call) (l : Lent) (s : Calls N M p c l) where
@@ -112,9 +112,9 @@ module _ (N M p : ℕ) (c : Call) (l : Lent) (s : Calls N M p c l) where
         a_is : a ≡ after
         a_is = opened ∙ ap (opens N c) o_is
 
-        -- `follow` may be called
-        pub may_follow : (f : List ℕ) → length f ≡ 64 → Follows N p o.held o.share a l f
-        may_follow f e = rw (o_is, a_is) (may_carry N M p l own after carries f (omega (arith, e)))
+        -- `follow` may be called, with no place for a token
+        pub may_follow : (f : List ℕ) → Follows N p o.held o.share a l f
+        may_follow f = rw (o_is, a_is) (may_carry N M p l own after carries f (opens_places N c own f))
 
         -- and what it leaves is the definition's, no token among it
         pub leaves-call : (f : List ℕ) (w : Answer) (l' : Lent) (f' : List ℕ) → Followed N p o.held o.share a l f w l' f'

@@ -14,10 +14,10 @@ ghost use Rattle.call.specs.Calls.{Calls};
 use definition::{Answer, Call};
 use follow::follow;
 use internal::calls::opens;
-use lent::{BAG_WORDS, ListsMut};
+use lent::{ListsMut, row};
 use records::load;
 
-// Makes the call `c` of participant `p`. A call frees nothing: no token goes to the list that is lent to `follow` for them.
+// Makes the call `c` of participant `p`. A call frees nothing, so `follow` is lent no place for a token.
 pub fn take_call(l: &mut ListsMut<'_>, p: usize, c: Call) -> Answer
     requires { Calls l.old.n l.old.m p c (lent l.old) }
     ensures leaves { Leaves l.old.n l.old.m
@@ -25,8 +25,7 @@ pub fn take_call(l: &mut ListsMut<'_>, p: usize, c: Call) -> Answer
         [] result (lent l.new) [] }
     ensures same { Same l.old l.new }
 {
-    let o = load(l.read().participants, p);
+    let o = load(row(l.read().participants, p));
     let after = opens(l.n as u64, c, o);
-    let mut none = [0u64; BAG_WORDS];
-    follow(l, p, o, after, &mut none)
+    follow(l, p, o, after, &mut [])
 }

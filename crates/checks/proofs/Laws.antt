@@ -5,9 +5,8 @@ use mathlib.Core.List.{List, [], ◌∷◌}
 use Prim.Native.Nat.{ℕ, ◌+◌, ◌-◌, ◌*◌, ◌≤◌, ◌<◌}
 use native.Mathlib.Omega.{arith}
 use lib.Dec.{eqb, ltb, leb}
-use lib.ListN.{get_or}
+use lib.ListN.{get_or, take, drop}
 use borrow.Author.Tests.{leb-false, ltb-true, ltb-false, lt-ltb, le-ltb, eqb-true, eqb-false, eq-eqb}
-use Rattle.std.specs.Prelude.{Result, Ok, Err}
 use Rattle.definition.specs.Base.{branch, count, least}
 use Rattle.definition.specs.Bags.{max_objects, items}
 use Rattle.definition.specs.Calls.{lacks, count_full, token_above, held_already, needs}
@@ -21,13 +20,13 @@ use Rattle.definition.specs.declared.Participant.{Participant}
 use Rattle.definition.specs.Codec.{participant_of}
 use Rattle.definition.proofs.Base.{both, count_least}
 use Rattle.definition.proofs.Lists.{sized_is}
+use Rattle.lent.proofs.Laws.{row_word}
+use Rattle.records.proofs.Laws.{row_alone}
 use Rattle.bits.specs.Bits.{within, words_at}
 use Rattle.bags.proofs.Nodes.{held-items}
 use Rattle.ranges.specs.Sound.{Sound}
 use Rattle.ranges.proofs.Laws.{limits-small, link_cell}
 use Rattle.ranges.proofs.Facts.{facts, bag-len-small}
-use Rattle.refusals.specs.Numbers.{number, refused}
-use Rattle.refusals.specs.declared.Refusal.{Refusal}
 use Rattle.checks.specs.Passed.{Passed, Present}
 use Rattle.checks.specs.Refusals.{sized_first, step_refusal, call_refusal, register_refusal, damage_of, step_rest, call_rest, register_rest, row}
 
@@ -97,11 +96,11 @@ present N M p t e =
     let b = neither (leb N p) (t.slot_free p) a.0 in
     (leb-false N p b.0, b.1)
 
--- absent, by the words that say so
-pub absent_words : (N M p : ℕ) (l : Lent) → absent N M p (tables_of N M l)
-    ≡ (leb N p || slot_bits N l.globals p || (is_tagged (get_or l.participants (p * 21 + 1) 0) && is_rest (row l.participants p).place))
+-- absent, by the words of the row, which say so
+pub absent_words : (N M p : ℕ) (l : Lent) → let part = take 21 (drop (p * 21) l.participants) in
+    absent N M p (tables_of N M l) ≡ (leb N p || slot_bits N l.globals p || (is_tagged (get_or part 1 0) && is_rest (row part 0).place))
 unfolding absent running tables_of shared_from
-absent_words N M p l = rw (link_cell l.participants p, not_not (is_rest (row l.participants p).place))
+absent_words N M p l = rw (link_cell l.participants p, not_not (is_rest (row l.participants p).place), row_word 21 l.participants p 1 (omega arith), row_alone l.participants p)
 
 -- twice, by the words of the bag
 pub twice_words : (N M p : ℕ) (c : Call) (l : Lent) (o : Participant) → Present N M l p o
@@ -193,57 +192,6 @@ register_fine N M l e =
     let a = whole-rest N M l _ e in
     let b = none 10 _ _ (λ z. absurd (omega arith)) a.1 in
     record { sound = a.0; free = count_least N (tables_of N M l).slot_free (eqb-false _ _ b.0) }
-
--- ---- an answer of a check is fixed by its number
-
--- the refusal that has a number
-named : ℕ → Refusal
-named k =
-    branch (eqb k 1) Refusal.Damage (branch (eqb k 2) Refusal.Sizes (branch (eqb k 3) Refusal.Gone (
-    branch (eqb k 4) Refusal.Busy (branch (eqb k 5) Refusal.Idle (branch (eqb k 6) Refusal.NoGuard (
-    branch (eqb k 7) Refusal.NoHandle (branch (eqb k 8) Refusal.CountFull (branch (eqb k 9) Refusal.TokenAbove (
-    branch (eqb k 10) Refusal.NoSlot (branch (eqb k 11) Refusal.NoNode (branch (eqb k 12) Refusal.ListShort (
-    branch (eqb k 13) Refusal.Record Refusal.HeldAlready))))))))))))
-
-named-number : (r : Refusal) → named (number r) ≡ r
-unfolding named branch
-named-number Refusal.Damage = refl
-named-number Refusal.Sizes = refl
-named-number Refusal.Gone = refl
-named-number Refusal.Busy = refl
-named-number Refusal.Idle = refl
-named-number Refusal.NoGuard = refl
-named-number Refusal.NoHandle = refl
-named-number Refusal.CountFull = refl
-named-number Refusal.TokenAbove = refl
-named-number Refusal.NoSlot = refl
-named-number Refusal.NoNode = refl
-named-number Refusal.ListShort = refl
-named-number Refusal.Record = refl
-named-number Refusal.HeldAlready = refl
-
-number-positive : (r : Refusal) → number r ≡ 0 → ⊥
-number-positive Refusal.Damage e = omega arith
-number-positive Refusal.Sizes e = omega arith
-number-positive Refusal.Gone e = omega arith
-number-positive Refusal.Busy e = omega arith
-number-positive Refusal.Idle e = omega arith
-number-positive Refusal.NoGuard e = omega arith
-number-positive Refusal.NoHandle e = omega arith
-number-positive Refusal.CountFull e = omega arith
-number-positive Refusal.TokenAbove e = omega arith
-number-positive Refusal.NoSlot e = omega arith
-number-positive Refusal.NoNode e = omega arith
-number-positive Refusal.ListShort e = omega arith
-number-positive Refusal.Record e = omega arith
-number-positive Refusal.HeldAlready e = omega arith
-
--- two answers with the same number are the same
-pub refused-same : (a b : Result Unit Refusal) → refused a ≡ refused b → a ≡ b
-refused-same (Ok u) (Ok v) e = refl
-refused-same (Ok u) (Err r) e = absurd (number-positive r (sym e))
-refused-same (Err r) (Ok u) e = absurd (number-positive r e)
-refused-same (Err r) (Err s) e = ap Err (sym (named-number r) ∙ ap named e ∙ named-number s)
 
 -- ---- lists that are sound have what the checks ask
 

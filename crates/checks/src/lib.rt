@@ -4,45 +4,31 @@
 // The Rust asks nothing of this: its types and its borrow checker see to it that a handle names a participant that is there, and its
 // counts panic or wrap where they overflow. Here every call may come with anything, so each is checked whole before it changes a word. A check
 // only reads. The numbers are those of `refusal` over the definition's lists of checks (specs/Public), and 0 where none holds. A number fixes
-// the answer (`refused-same` of proofs/Laws), and proofs/Laws says what a caller knows where none holds.
+// the answer (`refused_one` of refusals, proofs/Numbers), and proofs/Laws says what a caller knows where none holds.
 #![tactic(auto)]
 
-ghost use Rattle.std.specs.Prelude.{◌≡◌, true, false, ℕ, ◌+◌, ◌*◌, ◌≤◌, ◌<◌, ltb, length, MatchResult};
+ghost use Rattle.std.specs.Prelude.{◌≡◌, true, ◌+◌, ltb, MatchResult};
 ghost use Rattle.definition.specs.Base.{count};
 ghost use Rattle.definition.specs.Calls.{lacks};
 ghost use Rattle.definition.specs.Layout.{slot_bits, node_bits};
 ghost use Rattle.definition.specs.Public.{absent, missing, twice};
-ghost use Rattle.definition.specs.Ranges.{bit_words};
 ghost use Rattle.lent.specs.Lists.{read};
 ghost use Rattle.refusals.specs.Numbers.{number, refused};
 ghost use Rattle.checks.specs.Passed.{Passed, Present, tables};
 ghost use Rattle.checks.specs.Refusals.{damage_of, step_refusal, call_refusal, register_refusal};
 
 use bags::holds_token;
-use bits::{count_free, node_bits, slot_bits};
+use bits::FreeBits;
 use definition::{Call, Participant};
-use flow::Bag;
 use flow::links::is_tagged;
 use internal::calls::{count_full, lacks, needs, token_above};
 use internal::places::{is_rest, takes_node};
-use lent::{ASIDE, BAG_WORDS, ENTRY_NEXT, GLOBAL_WORDS, Lists, PARTICIPANT_WORDS};
-use ranges::{in_range, sizes};
+use lent::{ASIDE, BAG_WORDS, ENTRY_NEXT, Lists, row};
+use ranges::Measured;
 use records::load;
 use refusals::{Refusal, refuse_if};
 
-// internal.rs, `MAX_OBJECTS`: a step frees at most one bag of tokens.
-const MAX_OBJECTS: usize = Bag::MAX_OBJECTS as usize;
-
 // ---- what stands in the lists
-
-// Returns whether slot `p` is free. (It takes the list that it reads: `survey` asks it for a number of slots of its own.)
-pub fn slot_free(globals: &[u64], n: usize, p: usize) -> bool
-    requires { (p < n) × (5 + bit_words n ≤ length globals.now) }
-    ensures { result ≡ slot_bits n globals.now p }
-{
-    let w = globals[GLOBAL_WORDS + p / 64];
-    (w >> (p % 64)) % 2 == 1
-}
 
 // Returns whether the free nodes minus those set aside are below the need. No sum is made, so none can wrap.
 fn no_node(free: u64, aside: u64, need: u64) -> bool
@@ -69,42 +55,42 @@ impl<'a> Whole<'a> {
             (λ w. (w.lists ≡ lists.entry) × (damage_of lists.entry.n lists.entry.m (read lists.entry) ≡ 0))
             (λ r. number r ≡ damage_of lists.entry.n lists.entry.m (read lists.entry)) }
     {
-        refuse_if(!sizes(lists), Refusal::Sizes)?;
-        refuse_if(!in_range(lists), Refusal::Damage)?;
+        let measured = Measured::of(lists)?;
+        refuse_if(!measured.in_range(), Refusal::Damage)?;
         Ok(Whole { lists })
     }
 
     // Returns how many slots are free.
-    #[tactic(auto, using(bits::proofs::Laws::slots_counted), unfolding(definition::specs::Layout::global_words))]
+    #[tactic(auto, unfolding(definition::specs::Layout::global_words, definition::specs::Layout::slot_bits))]
     fn free_slots(self) -> u64
         ensures { result ≡ count self.entry.lists.n (slot_bits self.entry.lists.n self.entry.lists.globals.now) }
     {
-        count_free(slot_bits(self.lists.globals, self.lists.n))
+        FreeBits::slots(self.lists.n).count_free(self.lists.globals)
     }
 
     // Returns how many nodes are free.
-    #[tactic(auto, using(bits::proofs::Laws::nodes_counted), unfolding(definition::specs::Layout::global_words))]
+    #[tactic(auto, unfolding(definition::specs::Layout::global_words, definition::specs::Layout::node_bits))]
     fn free_nodes(self) -> u64
         ensures { result ≡ count self.entry.lists.m (node_bits self.entry.lists.n self.entry.lists.m self.entry.lists.globals.now) }
     {
         let l = self.lists;
-        count_free(node_bits(l.globals, l.n, l.m))
+        FreeBits::nodes(l.n, l.m).count_free(l.globals)
     }
 
     // Returns participant `p`, if it is there: its index is below `n`, its slot is not free, and it is not both deleted and at rest.
-    #[tactic(auto, using(crate::proofs::Laws::absent_words))]
+    #[tactic(auto, using(crate::proofs::Laws::absent_words), unfolding(definition::specs::Layout::global_words, definition::specs::Layout::slot_bits))]
     fn present(self, p: usize) -> Result<Standing<'a>, Refusal>
         ensures { MatchResult result
             (λ s. (s.whole.lists ≡ self.entry.lists) × (s.p ≡ p))
             (λ r. (absent self.entry.lists.n self.entry.lists.m p (tables self.entry.lists) ≡ true) × (number r ≡ 3)) }
     {
         let l = self.lists;
-        if l.n <= p || slot_free(l.globals, l.n, p) {
+        if l.n <= p || FreeBits::slots(l.n).is_free(l.globals, p) {
             return Err(Refusal::Gone);
         }
-        let next = l.participants[p * PARTICIPANT_WORDS + ENTRY_NEXT];
-        let o = load(l.participants, p);
-        if is_tagged(next) && is_rest(o.place) {
+        let row = row(l.participants, p);
+        let o = load(row);
+        if is_tagged(row[ENTRY_NEXT]) && is_rest(o.place) {
             return Err(Refusal::Gone);
         }
         Ok(Standing { whole: self, p, o })
@@ -163,21 +149,22 @@ pub fn check_call(l: Lists<'_>, p: usize, c: Call) -> Result<(), Refusal>
     let o = standing.o;
     refuse_if(!is_rest(o.place), Refusal::Busy)?;
     lacks(c, o)?;
-    refuse_if(count_full(c, o), Refusal::CountFull)?;
-    refuse_if(token_above(c), Refusal::TokenAbove)?;
+    count_full(c, o)?;
+    token_above(c)?;
     refuse_if(standing.held_already(c), Refusal::HeldAlready)?;
     let need = needs(l.n as u64, c, o);
     let short = no_node(whole.free_nodes(), l.globals[ASIDE], need);
     refuse_if(short, Refusal::NoNode)
 }
 
-// Checks a step of participant `p`, with `places` places for the tokens that it frees: 2, 1, 12, 3, 5, then 1 for the missing node.
+// Checks a step of participant `p`, with `places` places for the tokens that it frees, one bag of them at most: 2, 1, 12, 3, 5, then 1 for the missing
+// node.
 #[tactic(auto, using(crate::proofs::Laws::step_numbers), unfolding(definition::specs::Base::branch))]
 pub fn check_step(l: Lists<'_>, p: usize, places: usize) -> Result<(), Refusal>
     ensures { refused result ≡ step_refusal l.entry.n l.entry.m (read l.entry) places p }
 {
     let whole = Whole::of(l)?;
-    refuse_if(places < MAX_OBJECTS, Refusal::ListShort)?;
+    refuse_if(places < BAG_WORDS, Refusal::ListShort)?;
     let standing = whole.present(p)?;
     refuse_if(is_rest(standing.o.place), Refusal::Idle)?;
     refuse_if(standing.lacks_node(), Refusal::Damage)

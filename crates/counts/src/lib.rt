@@ -32,13 +32,12 @@ pub fn set_pins(counts: &mut Counts, pins: u64)
     counts.pins = pins;
 }
 
-// The participant with other counts: each is set where it stands, in the copy that is given back.
-pub fn counting(guards: u64, handles: u64, pins: u64, o: Participant) -> Participant
+// The participant with other counts: each is set where it stands.
+pub fn counting(guards: u64, handles: u64, pins: u64, mut o: Participant) -> Participant
     ensures { result ≡ counting guards handles pins o }
 {
-    let mut n = o;
-    set_guards(&mut n.counts, guards);
-    set_handles(&mut n.counts, handles);
-    set_pins(&mut n.counts, pins);
-    n
+    set_guards(&mut o.counts, guards);
+    set_handles(&mut o.counts, handles);
+    set_pins(&mut o.counts, pins);
+    o
 }

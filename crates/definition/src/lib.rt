@@ -4,7 +4,7 @@
 #![tactic(auto)]
 
 ghost use Rattle.std.specs.Prelude.{◌≡◌};
-ghost use Rattle.definition.specs.Codec.{owner_number};
+ghost use Rattle.definition.specs.Codec.{owner_number, owner_of};
 ghost use Rattle.definition.specs.Preds.{ptr_of_pred, pred_of_ptr};
 
 use epoch::Epoch;
@@ -72,9 +72,9 @@ pub enum Item {
 // Whose `Global::collect` runs: internal.rs, `Local::pin`, `Local::flush`, or the `pin` inside `Local::finalize`.
 #[derive(Clone, Copy)]
 pub enum Owner {
-    Pin,
-    Flush,
-    Finalize,
+    Pin = 0,
+    Flush = 1,
+    Finalize = 2,
 }
 
 // An owner's number in a table.
@@ -83,10 +83,20 @@ impl From<Owner> for u64 {
     ghost from_gives = { λ k n. n ≡ owner_number k };
 
     fn from(k: Owner) -> u64 {
-        match k {
-            Owner::Pin => 0,
-            Owner::Flush => 1,
-            Owner::Finalize => 2,
+        k as u64
+    }
+}
+
+// And back: any number says an owner, as in specs/Codec, so this is no `TryFrom`.
+#[tactic(auto, unfolding(crate::specs::Codec::owner_of, crate::specs::Base::branch))]
+impl From<u64> for Owner {
+    ghost from_gives = { λ n k. k ≡ owner_of n };
+
+    fn from(n: u64) -> Owner {
+        match n {
+            0 => Owner::Pin,
+            1 => Owner::Flush,
+            _ => Owner::Finalize,
         }
     }
 }
@@ -98,7 +108,8 @@ pub struct Try {
     pub epoch: Epoch,
 }
 
-// internal.rs, `Global::collect`, its loop: whose it is, the epoch by which bags expire, and the pops left, this one included.
+// internal.rs, `Global::collect`, its loop: whose it is, the epoch by which bags expire, and the pops left, this one included. (No `Try` inside: its epoch is
+// another, and the definition's rules go by the three fields.)
 #[derive(Clone, Copy)]
 pub struct Pops {
     pub owner: Owner,
@@ -276,7 +287,8 @@ pub enum Kind {
     FetchOr,
 }
 
-// The access of a step: what it was, on which word, what it read and what it stored (0 where it did not).
+// The access of a step: what it was, on which word, what it read and what it stored (0 where it did not). No `Option` in its kinds: document 02's
+// No. 1 records what was read and stored as words, and says that unused ones are 0.
 #[derive(Clone, Copy)]
 pub struct Access {
     pub kind: Kind,
@@ -332,7 +344,7 @@ pub enum Answer {
 }
 
 // One participant in a survey. Its state is document 01's number, no enum: the list of reports is the caller's, in C too, where any word may stand.
-#[derive(Clone, Copy)]
+#[derive(Clone, Copy, Default)]
 pub struct Report {
     pub state: u64,
     pub guards: u64,

@@ -18,7 +18,11 @@ use Rattle.bits.specs.Bits.{taken}
 use Rattle.bits.proofs.Laws.{bit_words-has}
 use Rattle.records.specs.Stores.{PointersFit, stored_record}
 use Rattle.words.specs.Words.{write_globals, write_participants, write_nodes, write_lent}
-use Rattle.enroll.specs.Enroll.{Enrolls, Enrolled, free_slot}
+use Rattle.enroll.specs.Enroll.{Free, Enrolls, Enrolled, free_slot}
+
+-- the free bits that are looked at are those of the lists
+pub bits_ok : (N : ℕ) (l : Lent) → Enrolls N l → (r : Lent) → r ≡ l → Free N r.globals
+bits_ok N l e r read = rw read e.bits
 
 -- the registration may be made: r are the lists as they are read
 module _ (N : ℕ) (l : Lent) (e : Enrolls N l) (r : Lent) (read : r ≡ l) (p : ℕ) (least : p ≡ free_slot N r.globals) where
@@ -30,14 +34,18 @@ module _ (N : ℕ) (l : Lent) (e : Enrolls N l) (r : Lent) (read : r ≡ l) (p :
   unfolding global_words
   bit_ok = let below : p < N = rw least_is e.free in omega (arith, e.bits.long, bit_words-has p N below)
 
-  -- its row is there when its entry's next is stored, and when its epoch is
+  -- and its row is there
+  pub row_ok : p * 21 + 21 ≤ length l.participants
+  row_ok = omega (arith, e.rows, e.free, least_is)
+
+  -- still when its entry's next is stored, and when its epoch is
   module _ (g : List ℕ) (v : ℕ) (l₂ : Lent) (next : l₂ ≡ write_lent (Word.EntryNext (slot p)) v (record l { globals = g })) where
     length_next : length l₂.participants ≡ length l.participants
     unfolding write_participants
     length_next = ap (λ (l : Lent). length l.participants) next ∙ length-set l.participants (p * 21 + 1) v
 
     pub next_ok : p * 21 + 21 ≤ length l₂.participants
-    next_ok = omega (arith, length_next, e.rows, e.free, least_is)
+    next_ok = omega (arith, length_next, row_ok)
 
     pub word_ok : (w : ℕ) (l₃ : Lent) → l₃ ≡ write_lent (Word.ParticipantWord (slot p)) w l₂ → p * 21 + 21 ≤ length l₃.participants
     unfolding write_participants

@@ -1,15 +1,16 @@
-// What follows an access, by the function of internal.rs that goes on: private work only, up to the next access or to the end of the
-// operation. A participant goes in by value; the participant, the work outside its record and whether the operation ends come out.
-// `list`, `queue` and `internal` say which access each place makes; what they have in common is here, so that it is said once.
+// What the code does after an access, up to the next one or to the end of the operation: private work only, by the function of the Rust that goes on
+// there. It takes a participant by value, and gives back the participant, the work outside its record, and whether the operation ends. `list`, `queue`
+// and `internal` say which access each place makes; here is what they share.
 //
-// Each promise cites the definition of the same name. No function requires anything: what a place carries is passed on, not used.
+// Each promise cites the definition of the same name. No function requires anything: what a place carries is passed on, and not used. They are functions,
+// and not methods of a participant: its type is the definition's, and a type has methods only in its own crate.
 #![tactic(auto)]
 
 pub mod links; // links.rt: pointers as words
 
 ghost use Rattle.std.specs.Prelude.{◌≡◌};
 ghost use Rattle.definition.specs.Bags.{places_left, is_expired};
-ghost use Rattle.definition.specs.Flow.{holding, sharing, on, done, also, finalize, collected, pops, advanced, walk, waiting, placed, defer, pushed};
+ghost use Rattle.definition.specs.Flow.{on, done, also, finalize, collected, pops, advanced, walk, waiting, placed, defer, pushed};
 
 use counts::{counting, set_guards};
 use definition::{
@@ -82,20 +83,6 @@ impl Deferred {
     pub const MAX_TOKEN: u64 = 2_147_483_647;
 }
 
-// The participant with a bag of another length.
-pub fn holding(held: u64, o: Participant) -> Participant
-    ensures { result ≡ holding held o }
-{
-    Participant { held, ..o }
-}
-
-// The participant with another share of the nodes set aside.
-pub fn sharing(share: u64, o: Participant) -> Participant
-    ensures { result ≡ sharing share o }
-{
-    Participant { share, ..o }
-}
-
 // The operation stands before its next access.
 #[tactic(auto, unfolding(definition::specs::Flow::on))]
 pub fn on(place: Place, o: Participant) -> After
@@ -156,22 +143,24 @@ pub fn collected(owner: Owner, o: Participant) -> After
 
 // internal.rs, `Global::collect`, `for _ in 0..steps`: another pop where some are left.
 #[tactic(auto, unfolding(definition::specs::Base::branch, definition::specs::Flow::pops))]
-pub fn pops(owner: Owner, epoch: Epoch, left: u64, o: Participant) -> After
-    ensures { result ≡ pops owner epoch left o }
+pub fn pops(p: Pops, o: Participant) -> After
+    ensures { result ≡ pops p.owner p.epoch p.left o }
 {
-    if left == 0 {
-        collected(owner, o)
+    if p.left == 0 {
+        collected(p.owner, o)
     } else {
-        on(Place::Pop(Pops { owner, epoch, left }, PopAt::Head), o)
+        on(Place::Pop(p, PopAt::Head), o)
     }
 }
 
 // internal.rs, `Global::try_advance` returns an epoch, and the loop of `collect` begins.
 #[tactic(auto, unfolding(definition::specs::Flow::advanced, definition::specs::Flow::collect_steps))]
-pub fn advanced(owner: Owner, epoch: Epoch, o: Participant) -> After
-    ensures { result ≡ advanced owner epoch o }
+pub fn advanced(t: Try, o: Participant) -> After
+    ensures { result ≡ advanced t.owner t.epoch o }
 {
-    pops(owner, epoch, Global::COLLECT_STEPS, o)
+    let Try { owner, epoch } = t;
+    let left = Global::COLLECT_STEPS;
+    pops(Pops { owner, epoch, left }, o)
 }
 
 // list.rs, `Iter::next`: the end of the list ends the iteration, and every pinned participant was pinned in the loaded epoch.
@@ -211,10 +200,10 @@ pub fn placed(d: Deferring, o: Participant) -> After
             also(Work::Put(item), walk(t, pred, succ, o))
         }
         // An old head: queue.rs, `pop_if_internal` returns the bag in `next`, which is dropped only now, and one pop fewer is left.
-        Deferring::Node(Pops { owner, epoch, left }, _, next) => also(
-            Work::PutThenFree(item, next),
-            pops(owner, epoch, left.saturating_sub(1), o),
-        ),
+        Deferring::Node(p, _, next) => {
+            let left = p.left.saturating_sub(1);
+            also(Work::PutThenFree(item, next), pops(Pops { left, ..p }, o))
+        }
     }
 }
 
@@ -224,7 +213,8 @@ pub fn defer(d: Deferring, o: Participant) -> After
     ensures { result ≡ defer d o }
 {
     if o.held < Bag::MAX_OBJECTS {
-        placed(d, holding(o.held + 1, o))
+        let held = o.held + 1;
+        placed(d, Participant { held, ..o })
     } else {
         on(Place::Push(Then::Defer(d), PushAt::Epoch), o)
     }
@@ -233,16 +223,15 @@ pub fn defer(d: Deferring, o: Participant) -> After
 // internal.rs, `Global::push_bag` returns: to the loop of `defer`; to `flush`, which collects; to `finalize`, whose guard is dropped, and
 // `unpin` counts it.
 #[tactic(auto, unfolding(definition::specs::Flow::pushed))]
-pub fn pushed(then: Then, o: Participant) -> After
+pub fn pushed(then: Then, mut o: Participant) -> After
     ensures { result ≡ pushed then o }
 {
     match then {
         Then::Defer(d) => defer(d, o),
         Then::Flush => on(Place::AdvanceEpoch(Owner::Flush), o),
         Then::Finalize => {
-            let mut n = o;
-            set_guards(&mut n.counts, 0);
-            on(Place::FinalWord, n)
+            set_guards(&mut o.counts, 0);
+            on(Place::FinalWord, o)
         }
     }
 }

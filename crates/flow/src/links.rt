@@ -1,10 +1,17 @@
 // Pointers as words: an index and a tag in place of atomic.rs, `Shared`. Null is 0, index i with tag t is 2(i + 1) + t. Each promise
 // cites the definition of the same name.
+//
+// A pointer has no type of its own: no place keeps one as a word (they keep `Ptr`, `Slot` and `Node`), so it would be made of each word that an access saw
+// and undone in each that an access stores. An index is asked to be one that a pointer can name by `requires`, and not by a type: `Slot`, `Node`
+// and `Ptr` are the definition's, and hold any number.
 ghost use Rattle.std.specs.Prelude.{◌≡◌, eqb};
 ghost use Rattle.definition.specs.Links.{link, is_null, index, is_tagged, pointee, pointer, node_at};
 ghost use Rattle.flow.specs.Words.{IsIndex, PtrFits};
 
 use definition::{Node, Ptr, Slot};
+
+// The null pointer.
+pub const NULL: u64 = 0;
 
 // How many indices a pointer can name: the word for the last of them, with its tag, is 2 ^ 64 - 1.
 const INDICES: u64 = 0x7fff_ffff_ffff_ffff;
@@ -61,7 +68,7 @@ pub fn pointer(p: Ptr) -> u64
     ensures { result ≡ pointer p }
 {
     match p {
-        Ptr::Null => 0,
+        Ptr::Null => NULL,
         Ptr::At(s) => link(s.0),
     }
 }

@@ -13,6 +13,7 @@ ghost use Rattle.std.specs.Prelude.{◌+◌, ◌<◌, ◌≤◌, length};
 use definition::{Answer, Call};
 use lent::{BAG_WORDS, GLOBAL_WORDS, ListsMut, NODE_WORDS, PARTICIPANT_WORDS};
 use script::Action;
+use std::fmt;
 use std::io::{self, Write};
 
 // The sizes of the tables.
@@ -20,7 +21,8 @@ const N: usize = 3;
 
 const M: usize = 4;
 
-// Where each list begins among the words of all five, one list after another, and how many words there are.
+// Where each list begins among the words of all five, one list after another, and how many words there are. The free bits take two words; in digits,
+// since a constant cannot call `bit_words`.
 const PARTICIPANTS: usize = GLOBAL_WORDS + 2;
 
 const NODES: usize = PARTICIPANTS + N * PARTICIPANT_WORDS;
@@ -128,7 +130,8 @@ impl Case {
         let k = i - CHANGED;
         Case {
             at: HELD + k / 3,
-            value: 9 + (k % 3) as u64,
+            // 4v + 1, 2 or 3: by hand, and not by `item_word` of bags, since oracle/hurt.py makes the three words so.
+            value: 4 * 2 + 1 + (k % 3) as u64,
             action: Action::Call((k / (3 * BAG_WORDS)) as u64, Call::Defer(2)),
         }
     }
@@ -145,7 +148,7 @@ fn value(w: u64, turn: u64) -> u64 {
 }
 
 // Returns what is tried with a changed word. Of nineteen turns ten are steps, every other one marked; one is a marked step of participant 3, who is
-// beyond the last; the others are the calls.
+// beyond the last; the others are the calls. (By number: the order is that of oracle/hurt.py, which makes the same cases.)
 fn tried(turn: u64) -> Action {
     let p = turn / 19 % 3;
     let k = turn % 19;
@@ -192,6 +195,7 @@ impl Tally {
                 self.sum = mix(self.sum, k);
             }
             Answer::Refused(r) => {
+                // By number, as an answer has it and oracle/hurt.py counts it.
                 if r == 1 {
                     self.damaged = self.damaged.wrapping_add(1);
                 } else {
@@ -207,6 +211,16 @@ impl Tally {
     // Adds the words of the lists to the checksum, and the freed tokens.
     fn sum_lists(&mut self, words: &[u64], freed: &[u64]) {
         self.sum = words.iter().chain(freed).fold(self.sum, |s, w| mix(s, *w));
+    }
+}
+
+impl fmt::Display for Tally {
+    fn fmt<W: fmt::Write>(&self, f: &mut fmt::Formatter<W>) -> fmt::Result {
+        write!(
+            f,
+            "{} damaged, {} refused, {} done, {} more, sum {}, changed by a refusal {}",
+            self.damaged, self.refused, self.done, self.more, self.sum, self.wrong
+        )
     }
 }
 
@@ -231,15 +245,6 @@ fn try_moment(kept: &[u64; WORDS], first: u64, t: &mut Tables) -> Tally {
     tally
 }
 
-// Says what came of a moment.
-fn report<W: Write>(writer: &mut W, t: Tally) -> io::Result<()> {
-    writeln!(
-        writer,
-        "{} damaged, {} refused, {} done, {} more, sum {}, changed by a refusal {}",
-        t.damaged, t.refused, t.done, t.more, t.sum, t.wrong
-    )
-}
-
 // Plays the records of a block, and tries every word after each `EVERY` of them.
 fn run<W: Write>(writer: &mut W, block: &[u8], t: &mut Tables) -> io::Result<()> {
     let mut kept = [0; WORDS];
@@ -247,7 +252,7 @@ fn run<W: Write>(writer: &mut W, block: &[u8], t: &mut Tables) -> io::Result<()>
         t.play(&kept, script::action_of(bytes));
         kept = t.words();
         if i % EVERY == 0 {
-            report(writer, try_moment(&kept, i as u64, t))?;
+            writeln!(writer, "{}", try_moment(&kept, i as u64, t))?;
         }
     }
     Ok(())
@@ -262,7 +267,7 @@ fn main(rt: HostRuntime) -> io::Result<()> {
         queued: [0; M * BAG_WORDS],
         freed: [0; BAG_WORDS],
     };
-    let mut block = [0u8; 65536];
+    let mut block = [0u8; stream::BLOCK];
     let n = stream::read_full(&mut rt.stdin(), &mut block)?;
     run(&mut rt.stdout(), &block[..n], &mut t)
 }

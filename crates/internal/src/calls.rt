@@ -1,7 +1,8 @@
 // src/internal.rs, the functions of `Local` that a participant calls: what each asks first, the nodes that it needs, and what it begins,
 // up to its first access. An operation without an access is over at once. Refusals and needs are our own, with the numbers that
 // document 01 gives them. Each promise cites the definition of the same name, or what `begins` gives for the call. Bounds of the counts are asked by
-// `requires`, not said by a type: `Participant` is the definition's, and holds any numbers there.
+// `requires`, and not said by a type: each function asks for the count that it raises, or that the sum that it reckons fits, and a type that bounds
+// them all would ask more.
 ghost use Rattle.std.specs.Prelude.{◌≡◌, ◌+◌, ◌^◌, ◌<◌, nat_le};
 ghost use Rattle.definition.specs.Base.{branch};
 ghost use Rattle.definition.specs.Calls.{lacks, count_full, token_above, finalizes, overflow, pin_needs, needs, begins, opens};
@@ -29,23 +30,26 @@ pub fn lacks(call: Call, o: Participant) -> Result<(), Refusal>
 }
 
 // Refusal 8: the count that the call raises is at its limit.
-#[tactic(auto, unfolding(definition::specs::Calls::max_count, definition::specs::Calls::count_full))]
-pub fn count_full(call: Call, o: Participant) -> bool
-    ensures { result ≡ count_full call o }
+#[tactic(auto, unfolding(definition::specs::Base::branch, definition::specs::Calls::max_count, definition::specs::Calls::count_full))]
+pub fn count_full(call: Call, o: Participant) -> Result<(), Refusal>
+    ensures { refused result ≡ branch (count_full call o) 8 0 }
 {
     match call {
-        Call::Acquire => Local::MAX_COUNT <= o.counts.handles,
-        Call::Pin => Local::MAX_COUNT <= o.counts.guards,
-        _ => false,
+        Call::Acquire => refuse_if(Local::MAX_COUNT <= o.counts.handles, Refusal::CountFull),
+        Call::Pin => refuse_if(Local::MAX_COUNT <= o.counts.guards, Refusal::CountFull),
+        _ => Ok(()),
     }
 }
 
 // Refusal 9: a token above the limit.
-#[tactic(auto, unfolding(definition::specs::Calls::max_token, definition::specs::Calls::token_above))]
-pub fn token_above(call: Call) -> bool
-    ensures { result ≡ token_above call }
+#[tactic(auto, unfolding(definition::specs::Base::branch, definition::specs::Calls::max_token, definition::specs::Calls::token_above))]
+pub fn token_above(call: Call) -> Result<(), Refusal>
+    ensures { refused result ≡ branch (token_above call) 9 0 }
 {
-    matches!(call, Call::Defer(token) if Deferred::MAX_TOKEN < token)
+    match call {
+        Call::Defer(token) => refuse_if(Deferred::MAX_TOKEN < token, Refusal::TokenAbove),
+        _ => Ok(()),
+    }
 }
 
 // Whether the call goes on to `finalize`: it gives up the last handle of a participant that is not pinned, or the last guard of one
@@ -113,55 +117,55 @@ pub fn needs(n: u64, call: Call, o: Participant) -> u64
 
 // Increments the handle count.
 #[tactic(auto, unfolding(definition::specs::Calls::begins))]
-fn acquire_handle(o: Participant) -> After
+fn acquire_handle(mut o: Participant) -> After
     requires { o.counts.handles + 1 < 2 ^ 64 }
     ensures { result ≡ begins Call.Acquire o }
 {
-    let mut n = o;
-    set_handles(&mut n.counts, o.counts.handles + 1);
-    flow::done(0, n)
+    let handles = o.counts.handles;
+    set_handles(&mut o.counts, handles + 1);
+    flow::done(0, o)
 }
 
 // Decrements the handle count.
 #[tactic(auto, unfolding(definition::specs::Base::branch, definition::specs::Calls::begins))]
-fn release_handle(o: Participant) -> After
+fn release_handle(mut o: Participant) -> After
     ensures { result ≡ begins Call.Release o }
 {
     if finalizes(Call::Release, o) {
         flow::finalize(o)
     } else {
-        let mut n = o;
-        set_handles(&mut n.counts, o.counts.handles.saturating_sub(1));
-        flow::done(0, n)
+        let handles = o.counts.handles;
+        set_handles(&mut o.counts, handles.saturating_sub(1));
+        flow::done(0, o)
     }
 }
 
 // Pins the participant: only the outermost guard makes accesses.
 #[tactic(auto, unfolding(definition::specs::Base::branch, definition::specs::Calls::begins))]
-fn pin(o: Participant) -> After
+fn pin(mut o: Participant) -> After
     requires { o.counts.guards + 1 < 2 ^ 64 }
     ensures { result ≡ begins Call.Pin o }
 {
-    let mut n = o;
-    set_guards(&mut n.counts, o.counts.guards + 1);
-    if o.counts.guards == 0 {
-        flow::on(Place::PinEpoch(Owner::Pin), n)
+    let guards = o.counts.guards;
+    set_guards(&mut o.counts, guards + 1);
+    if guards == 0 {
+        flow::on(Place::PinEpoch(Owner::Pin), o)
     } else {
-        flow::done(0, n)
+        flow::done(0, o)
     }
 }
 
 // Unpins the participant: only the outermost guard makes accesses.
 #[tactic(auto, unfolding(definition::specs::Base::branch, definition::specs::Calls::begins))]
-fn unpin(o: Participant) -> After
+fn unpin(mut o: Participant) -> After
     ensures { result ≡ begins Call.Unpin o }
 {
-    let mut n = o;
-    set_guards(&mut n.counts, o.counts.guards.saturating_sub(1));
-    if o.counts.guards == 1 {
-        flow::on(Place::UnpinWord, n)
+    let guards = o.counts.guards;
+    set_guards(&mut o.counts, guards.saturating_sub(1));
+    if guards == 1 {
+        flow::on(Place::UnpinWord, o)
     } else {
-        flow::done(0, n)
+        flow::done(0, o)
     }
 }
 
@@ -213,5 +217,6 @@ pub fn opens(n: u64, call: Call, o: Participant) -> After
     requires n_bound { o.held + n + 8 < 2 ^ 64 }
     ensures { result ≡ opens n call o }
 {
-    begins(call, flow::sharing(needs(n, call, o), o))
+    let share = needs(n, call, o);
+    begins(call, Participant { share, ..o })
 }

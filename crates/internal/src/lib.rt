@@ -57,16 +57,16 @@ fn collects(pins: u64) -> bool
 
 // After every `PINNINGS_BETWEEN_COLLECT` try advancing the epoch and collecting some garbage.
 #[tactic(auto, unfolding(definition::specs::Base::branch, definition::specs::Internal::pin_counted))]
-fn pin_counted(owner: Owner, o: Participant) -> After
+fn pin_counted(owner: Owner, mut o: Participant) -> After
     ensures { result ≡ pin_counted owner o }
 {
     // Increment the pin counter.
-    let mut n = o;
-    set_pins(&mut n.counts, o.counts.pins.wrapping_add(1));
-    if collects(o.counts.pins) {
-        flow::on(Place::AdvanceEpoch(owner), n)
+    let pins = o.counts.pins;
+    set_pins(&mut o.counts, pins.wrapping_add(1));
+    if collects(pins) {
+        flow::on(Place::AdvanceEpoch(owner), o)
     } else {
-        flow::collected(owner, n)
+        flow::collected(owner, o)
     }
 }
 
@@ -167,7 +167,7 @@ pub fn advance_word_follows(t: Try, curr: Slot, succ: Ptr, o: Participant, seen:
 {
     let local = Epoch(seen.value);
     if local.is_pinned() && local.unpinned() != t.epoch {
-        flow::advanced(t.owner, t.epoch, o)
+        flow::advanced(t, o)
     } else {
         flow::walk(t, Pred::Entry(curr), succ, o)
     }
@@ -185,7 +185,8 @@ pub fn advance_store_asks(t: Try) -> Ask
 pub fn advance_store_follows(t: Try, o: Participant) -> After
     ensures { (seen : Seen) → result ≡ follows (advance_store t o) seen }
 {
-    flow::advanced(t.owner, t.epoch.successor(), o)
+    let epoch = t.epoch.successor();
+    flow::advanced(Try { epoch, ..t }, o)
 }
 
 // `Local::finalize`, the store in the `unpin` of its guard's drop.
@@ -198,16 +199,15 @@ pub fn final_word_asks(me: Slot) -> Ask
 
 // Revert the handle count back to zero.
 #[tactic(auto, unfolding(definition::specs::Rule::follows, definition::specs::Internal::final_word))]
-pub fn final_word_follows(o: Participant) -> After
+pub fn final_word_follows(mut o: Participant) -> After
     ensures { (me : Slot) (seen : Seen) → result ≡ follows (final_word me o) seen }
 {
-    let mut n = o;
-    set_handles(&mut n.counts, 0);
-    flow::on(Place::FinalTag, n)
+    set_handles(&mut o.counts, 0);
+    flow::on(Place::FinalTag, o)
 }
 
-// The access of the place at which the participant `me` stands. At rest no step is made. (All places, here and below: document 01 names the
-// form, each place names its access and its next place.)
+// The access of the place at which the participant `me` stands. At rest no step is made, and what stands there is what the definition's rule has. (All
+// places, here and below: document 01 names the form, each place names its access and its next place.)
 #[tactic(auto, unfolding(definition::specs::Rule::asks, definition::specs::Internal::rule))]
 pub fn asks_at(me: Slot, o: Participant) -> Ask
     requires { PlaceFits me o.place }

@@ -3,10 +3,12 @@
 //
 // They always go together, so a function takes them together. A caller may lend lists of any length with any sizes: nothing is asked of
 // them here, and what must hold of them is looked at by the public calls (crate `ranges`). Beside them stands where a word is found, each
-// number once; the definition says the same in specs/Layout.
+// number once; the definition says the same in specs/Layout. Rows of one participant stand in two lists, and those of one node: five lists are what
+// callers lend and what the definition's `Lent` is. Promises say these numbers in digits, here and above: one that named the constant
+// would follow it where that is wrong.
 #![tactic(auto)]
 
-ghost use Rattle.std.specs.Prelude.{◌≡◌};
+ghost use Rattle.std.specs.Prelude.{◌≡◌, ◌+◌, ◌*◌, ◌≤◌, ◌<◌, length, take, drop};
 ghost use Rattle.lent.specs.Lists.{read, lent};
 
 use flow::Bag;
@@ -38,6 +40,16 @@ pub const BAG_LEN: usize = 2;
 
 // Words of a bag's row: one for each item that it has room for.
 pub const BAG_WORDS: usize = Bag::MAX_OBJECTS as usize;
+
+// Returns row `i` of a list that is read as rows of W words.
+#[tactic(auto, using(crate::proofs::Laws::row_part))]
+pub fn row<const W: usize>(list: &[u64], i: usize) -> &[u64; W]
+    requires wide { 0 < W }
+    requires in_bounds { i * W + W ≤ length list.now }
+    ensures { result.now ≡ take W (drop (i * W) list.now) }
+{
+    &list.as_chunks().0[i]
+}
 
 // The lists, lent to be read.
 #[derive(Clone, Copy)]

@@ -3,33 +3,41 @@
 // implementation (oracle/limits.py), not by this code.
 #![tactic(auto)]
 
-ghost use Rattle.std.specs.Prelude.{◌+◌, ◌≤◌};
+ghost use Rattle.std.specs.Prelude.{◌+◌, ◌*◌, ◌≤◌};
 
 use bits::bit_words;
 use definition::{Answer, Call};
 use lent::{BAG_WORDS, GLOBAL_WORDS, ListsMut, NODE_WORDS, PARTICIPANT_WORDS};
+use ranges::{MAX_NODES, MAX_PARTICIPANTS};
+use std::fmt;
 use std::io::{self, Write};
 
+// One participant more than may be, and one node more.
+const N: usize = MAX_PARTICIPANTS + 1;
+
+const M: usize = MAX_NODES + 1;
+
 // The numbers of participants and of nodes that are tried: none or one, the least, the most, and one more.
-const PARTICIPANTS_TRIED: [usize; 4] = [0, 1, 32, 33];
+const PARTICIPANTS_TRIED: [usize; 4] = [0, 1, MAX_PARTICIPANTS, N];
 
-const NODES_TRIED: [usize; 4] = [1, 2, 128, 129];
+const NODES_TRIED: [usize; 4] = [1, 2, MAX_NODES, M];
 
-// Lists that every case finds its lengths in: for 33 participants and 129 nodes, and each one word too long.
+// Lists that every case finds its lengths in: for `N` participants, whose free bits take one word, and `M` nodes, whose bits take three, and each
+// one word too long. (In digits: a constant cannot call `bit_words`.)
 #[derive(Drop)]
 struct Buffers {
     globals: [u64; GLOBAL_WORDS + 5],
-    participants: [u64; 33 * PARTICIPANT_WORDS + 1],
-    nodes: [u64; 129 * NODE_WORDS + 1],
-    held: [u64; 33 * BAG_WORDS + 1],
-    queued: [u64; 129 * BAG_WORDS + 1],
+    participants: [u64; N * PARTICIPANT_WORDS + 1],
+    nodes: [u64; M * NODE_WORDS + 1],
+    held: [u64; N * BAG_WORDS + 1],
+    queued: [u64; M * BAG_WORDS + 1],
     freed: [u64; BAG_WORDS + 1],
 }
 
 // Returns the length to lend of list `list`, which is right with `k` words: in the first ten of thirteen cases one list after another is one
-// word short, then one word long.
+// word short, then one word long. (By number: a case is printed so, and oracle/limits.py has the same.)
 fn lent_length(k: usize, case: usize, list: usize) -> usize
-    requires { (k ≤ 8256) × (list ≤ 4) }
+    requires { (k ≤ M * BAG_WORDS) × (list ≤ 4) }
     ensures { result ≤ k + 1 }
 {
     if case == 2 * list {
@@ -62,10 +70,10 @@ fn ask(l: &mut ListsMut<'_>, freed: &mut [u64]) -> [Answer; 4] {
     ]
 }
 
-// Lends lists of the lengths of a case.
+// Lends lists of the lengths of a case, which no type says: the cases are about wrong ones.
 #[tactic(auto, unfolding(definition::specs::Ranges::bit_words))]
 fn try_case(b: &mut Buffers, n: usize, m: usize, case: usize) -> [Answer; 4]
-    requires { (n ≤ 33) × (m ≤ 129) }
+    requires { (n ≤ N) × (m ≤ M) }
 {
     let Buffers {
         globals,
@@ -75,7 +83,7 @@ fn try_case(b: &mut Buffers, n: usize, m: usize, case: usize) -> [Answer; 4]
         queued,
         freed,
     } = b;
-    // A slice, since a part of an array behind a reference is not covered as an argument.
+    // A slice: the check does not follow a part of an array behind a reference into a call.
     let freed: &mut [u64] = freed;
     let bits = bit_words(n) + bit_words(m);
     let mut l = ListsMut {
@@ -90,12 +98,17 @@ fn try_case(b: &mut Buffers, n: usize, m: usize, case: usize) -> [Answer; 4]
     ask(&mut l, &mut freed[..places(case)])
 }
 
-// Writes an answer. No `Display` of `Answer`, which is the definition's: the form is that of this program's lines alone.
-fn say_answer<W: Write>(writer: &mut W, answer: Answer) -> io::Result<()> {
-    match answer {
-        Answer::Done(v, _) => write!(writer, ", done {v}"),
-        Answer::More(_) => write!(writer, ", more"),
-        Answer::Refused(r) => write!(writer, ", refused {r}"),
+// An answer as a line says it. A type of its own, since `Answer` is the definition's.
+#[derive(Drop)]
+struct Said(Answer);
+
+impl fmt::Display for Said {
+    fn fmt<W: fmt::Write>(&self, f: &mut fmt::Formatter<W>) -> fmt::Result {
+        match self.0 {
+            Answer::Done(v, _) => write!(f, "done {v}"),
+            Answer::More(_) => write!(f, "more"),
+            Answer::Refused(r) => write!(f, "refused {r}"),
+        }
     }
 }
 
@@ -106,7 +119,7 @@ fn try_all<W: Write>(writer: &mut W, b: &mut Buffers) -> io::Result<()> {
             for case in 0..13 {
                 write!(writer, "N {n}, M {m}, case {case}")?;
                 for answer in try_case(b, n, m, case) {
-                    say_answer(writer, answer)?;
+                    write!(writer, ", {}", Said(answer))?;
                 }
                 writeln!(writer)?;
             }
@@ -118,10 +131,10 @@ fn try_all<W: Write>(writer: &mut W, b: &mut Buffers) -> io::Result<()> {
 fn main(rt: HostRuntime) -> io::Result<()> {
     let mut b = Buffers {
         globals: [0; GLOBAL_WORDS + 5],
-        participants: [0; 33 * PARTICIPANT_WORDS + 1],
-        nodes: [0; 129 * NODE_WORDS + 1],
-        held: [0; 33 * BAG_WORDS + 1],
-        queued: [0; 129 * BAG_WORDS + 1],
+        participants: [0; N * PARTICIPANT_WORDS + 1],
+        nodes: [0; M * NODE_WORDS + 1],
+        held: [0; N * BAG_WORDS + 1],
+        queued: [0; M * BAG_WORDS + 1],
         freed: [0; BAG_WORDS + 1],
     };
     try_all(&mut rt.stdout(), &mut b)

@@ -3,7 +3,8 @@
 //
 // Insertion is at the head; deletion tags the entry's own next; the iteration unlinks tagged entries and gives up where its predecessor
 // is tagged. A place is where the code stands before one access: `.._asks` says which access it makes, `.._follows` what the code does
-// once it has seen the answer. Each promise cites the rule of the same name, whatever the rule has besides what the function is given.
+// once it has seen the answer. Each promise cites the rule of the same name, for all that the rule has besides what the function is given. Each place
+// has an `.._asks` of its own, as document 01 has it: "Each place names its access and its next place".
 #![tactic(auto)]
 
 ghost use Rattle.std.specs.Prelude.{◌≡◌};
@@ -16,8 +17,8 @@ ghost use Rattle.definition.specs.declared.Try.{Try};
 ghost use Rattle.list.specs.Fits.{RegisterFits, WalkFits};
 
 use definition::{
-    After, Ask, Cursor, Deferring, Participant, Place, Pred, Ptr, RegisterAt, Seen, Slot, Try,
-    WalkAt, Word,
+    After, Ask, Cursor, Deferring, Participant, Place, Pred, RegisterAt, Seen, Slot, Try, WalkAt,
+    Word,
 };
 use flow::links::{is_tagged, link, pointee, pointer};
 
@@ -116,6 +117,6 @@ pub fn iterate_follows(t: Try, o: Participant, at: WalkAt, seen: Seen) -> After
         // We lost, and the value found is the successor.
         WalkAt::Unlink(Cursor { pred, .. }, _) => flow::walk(t, pred, pointee(seen.value), o),
         // At `Err(Stalled)` `try_advance` gives up, and returns the epoch that it loaded.
-        WalkAt::Stalled => flow::advanced(t.owner, t.epoch, o),
+        WalkAt::Stalled => flow::advanced(t, o),
     }
 }

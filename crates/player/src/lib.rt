@@ -8,7 +8,7 @@ ghost use Rattle.lent.specs.Lists.{lent, read, Same};
 ghost use Rattle.script.specs.Played.{acts};
 ghost use Rattle.reclaimer.specs.Outcomes.{outcome_of};
 ghost use Rattle.player.specs.Records.{reached, reached_as, records_in};
-ghost use Rattle.player.specs.Owned.{owned, AreZeros};
+ghost use Rattle.player.specs.Owned.{owned, AreZeros, KeepsLent, IsLentTo};
 
 use definition::Answer;
 use lent::{BAG_WORDS, GLOBAL_WORDS, Lists, ListsMut, NODE_WORDS, PARTICIPANT_WORDS};
@@ -40,13 +40,15 @@ pub fn act_all(l: &mut ListsMut<'_>, freed: &mut [u64], bytes: &[u8])
     }
 }
 
-// The participants and nodes of the programs' tables (document 01, "Schedule program").
+// The participants and nodes of the programs' tables: those of document 01, "Schedule program", and not the limits of crate `ranges`, which
+// are the same today. Document 02, No. 5, raises the limits and leaves these.
 pub const N: usize = 32;
 
 pub const M: usize = 128;
 
 // The lists of a program for so many participants and nodes, and its list for freed tokens, owned: as long as the calls want them, which
-// the type says. Not for any sizes: a `&mut` to an array whose length is a parameter, put into `ListsMut`, is lost to the proof.
+// the type says. Not for any sizes: a `&mut` to an array whose length is a parameter, put into `ListsMut`, is lost to the proof. The free bits take three
+// words, one and two; in digits, since a constant cannot call `bit_words`.
 #[derive(Drop)]
 pub struct Tables {
     pub globals: [u64; GLOBAL_WORDS + 3],
@@ -89,26 +91,11 @@ impl Tables {
         }
     }
 
-    // Starts afresh, whatever the lists held. (Here and below the fields are lent in place: a function that lends several at once gets no proof.)
-    pub fn start(&mut self) -> Answer
-        ensures started { outcome_of result (owned self.new) [] ≡ start_lent 32 128 (owned self.old) }
-        ensures freed { self.new.freed ≡ self.old.freed }
-    {
-        let mut l = ListsMut {
-            n: N,
-            m: M,
-            globals: &mut self.globals,
-            participants: &mut self.participants,
-            nodes: &mut self.nodes,
-            held: &mut self.held,
-            queued: &mut self.queued,
-        };
-        reclaimer::start(&mut l)
-    }
-
-    // Plays an action, as `act` does.
-    pub fn act(&mut self, action: Option<Action>) -> Answer
-        ensures played { outcome_of result (owned self.new) self.new.freed ≡ acts 32 128 (owned self.old) self.old.freed action }
+    // Lends the lists, and the list for freed tokens, to a call that leaves them lent.
+    fn lend<R, F: FnOnce(&mut ListsMut<'_>, &mut [u64]) -> R>(&mut self, call: F) -> R
+        requires callable { F.IsAlwaysCallable call }
+        requires lends { KeepsLent F.FnOnce call }
+        ensures lent { IsLentTo F.FnOnce call self.old result self.new }
         ensures freed { length self.new.freed ≡ 64 }
     {
         let mut l = ListsMut {
@@ -120,22 +107,29 @@ impl Tables {
             held: &mut self.held,
             queued: &mut self.queued,
         };
-        act(&mut l, &mut self.freed, action)
+        call(&mut l, &mut self.freed)
+    }
+
+    // Starts afresh, whatever the lists held.
+    pub fn start(&mut self) -> Answer
+        ensures started { outcome_of result (owned self.new) [] ≡ start_lent 32 128 (owned self.old) }
+        ensures freed { self.new.freed ≡ self.old.freed }
+    {
+        self.lend(|l, _| reclaimer::start(l))
+    }
+
+    // Plays an action, as `act` does.
+    pub fn act(&mut self, action: Option<Action>) -> Answer
+        ensures played { outcome_of result (owned self.new) self.new.freed ≡ acts 32 128 (owned self.old) self.old.freed action }
+        ensures freed { length self.new.freed ≡ 64 }
+    {
+        self.lend(|l, freed| act(l, freed, action))
     }
 
     // Plays the records that stand one after another in `bytes`, as `act_all` does.
     pub fn act_all(&mut self, bytes: &[u8])
         ensures { reached_as (owned self.new) self.new.freed ≡ reached 32 128 bytes.now (owned self.old) self.old.freed (records_in bytes.now) }
     {
-        let mut l = ListsMut {
-            n: N,
-            m: M,
-            globals: &mut self.globals,
-            participants: &mut self.participants,
-            nodes: &mut self.nodes,
-            held: &mut self.held,
-            queued: &mut self.queued,
-        };
-        act_all(&mut l, &mut self.freed, bytes);
+        self.lend(|l, freed| act_all(l, freed, bytes));
     }
 }

@@ -21,7 +21,7 @@ use definition::{
 };
 use epoch::Epoch;
 use flow::SealedBag;
-use flow::links::{is_null, link, node_at, points_to};
+use flow::links::{NULL, is_null, link, node_at, points_to};
 
 // internal.rs, `Global::push_bag`: the bag is sealed with the epoch that was loaded, not with the sealer's own word, and moved into
 // `spare`, a node set aside for it.
@@ -29,7 +29,12 @@ use flow::links::{is_null, link, node_at, points_to};
 fn seal_bag(spare: Node, then: Then, word: u64, o: Participant) -> After
     ensures { result ≡ seal_bag spare then word o }
 {
-    let n = flow::sharing(o.share.saturating_sub(1), flow::holding(0, o));
+    let share = o.share.saturating_sub(1);
+    let n = Participant {
+        held: 0,
+        share,
+        ..o
+    };
     let tail = flow::on(Place::Push(then, PushAt::Tail(spare)), n);
     flow::also(Work::Seal(spare, Epoch(word)), tail)
 }
@@ -51,7 +56,7 @@ pub fn push_asks(at: PushAt) -> Ask
             Ask::Exchange(Word::QueueTail, link(onto.0), link(next.0))
         }
         // Looks like the actual tail; attempt to link in `new`.
-        PushAt::Link(new, onto) => Ask::Exchange(Word::NodeNext(onto), 0, link(new.0)),
+        PushAt::Link(new, onto) => Ask::Exchange(Word::NodeNext(onto), NULL, link(new.0)),
         // Try to move the tail pointer forward.
         PushAt::Move(new, onto) => { Ask::Exchange(Word::QueueTail, link(onto.0), link(new.0)) }
     }

@@ -1,20 +1,19 @@
 -- Ranges row by row, and sizes: laws that the proofs of the functions cite, and crates above. Assumes nothing.
-use mathlib.Core.Path.{◌≡◌, refl, ap, sym, ◌∙◌}
+use mathlib.Core.Path.{◌≡◌, refl, ap, ap₂, sym, ◌∙◌}
 use mathlib.Core.Bool.{Bool, true, false, ◌&&◌}
-use mathlib.Core.List.{List}
-use Prim.Native.Nat.{ℕ, zero, suc, ◌+◌, ◌-◌, ◌*◌, ◌≤◌, ◌<◌}
+use mathlib.Core.List.{List, []}
+use Prim.Native.Nat.{ℕ, zero, suc, ◌+◌, ◌*◌, ◌≤◌, ◌<◌}
 use native.Mathlib.Omega.{arith}
-use native.Mathlib.Nat.{add-zero, zero-add}
 use native.Mathlib.Numerals.{add-one}
 use lib.Dec.{eqb, leb}
 use lib.ListN.{get_or, length, take, drop}
 use lib.Seq.{take-length}
-use Rattle.std.specs.List.{list_all, range_with_len}
-use Rattle.std.proofs.lemmas.List.{get_or-take, get_or-drop, length-take-le, length-drop}
+use Rattle.std.specs.List.{list_all, zip}
+use Rattle.std.specs.Simd.{first_chunks}
 use Rattle.std.proofs.lemmas.List.Folds.{list_all_more}
-use Rattle.std.proofs.lemmas.List.FromFn.{length-range_with_len, get_or-range_with_len}
+use Rattle.std.proofs.lemmas.Slice.Zip.{length-zip, get_or-zip}
 use borrow.Author.Tests.{leb-true, le-leb}
-use Rattle.definition.specs.Base.{Tab, all}
+use Rattle.definition.specs.Base.{Tab, all, branch}
 use Rattle.definition.specs.Bags.{max_objects}
 use Rattle.definition.specs.Ranges.{within_limits, max_participants, max_nodes, bit_words, item_in, bag_in, record_in, bits_in, shared_in, in_range}
 use Rattle.definition.specs.Ranges.{entry_pointer_in, head_pointer_in, node_pointer_in, end_pointer_in}
@@ -22,43 +21,51 @@ use Rattle.definition.specs.Layout.{Lent, cell, participant_words, node_words, g
 use Rattle.definition.specs.Layout.{shared_from, bag_from, tables_of}
 use Rattle.definition.proofs.Base.{both, and_intro, all_at, all_intro}
 use Rattle.definition.proofs.Lists.{cell_in}
-use Rattle.bits.specs.Bits.{within}
+use Rattle.lent.proofs.Laws.{row_part, row_cells}
+use Rattle.bits.specs.Bits.{within, words_of}
 use Rattle.bits.proofs.Table.{all_ext}
-use Rattle.ranges.specs.Rows.{participant_in, node_row_in, globals_in}
+use Rattle.ranges.specs.Rows.{participant_in, participants_in, node_row_in, nodes_in, globals_in}
 
--- ---- a test of each number of a list, and of each index
+-- ---- a test of each entry of a list, and of each row
 
--- of a list's first i
-list_all_first : (p : ℕ → Bool) (xs : List ℕ) (i : ℕ) → i ≤ length xs → list_all p (take i xs) ≡ all i (λ j. p (get_or xs j 0))
-unfolding all
-list_all_first p xs zero l = refl
-list_all_first p xs (suc i) l =
-    let h : list_all p (take i xs) ≡ all i (λ j. p (get_or xs j 0)) = list_all_first p xs i (omega arith) in
-    rw (← h) (rw (add-one i) at (list_all_more p xs i 0 (omega arith)))
+module _ {X : Type 0} (p : X → Bool) (d : X) where
+  -- of a list's first i
+  list_all_first : (xs : List X) (i : ℕ) → i ≤ length xs → list_all p (take i xs) ≡ all i (λ j. p (get_or xs j d))
+  unfolding all
+  list_all_first xs zero l = refl
+  list_all_first xs (suc i) l =
+      let h : list_all p (take i xs) ≡ all i (λ j. p (get_or xs j d)) = list_all_first xs i (omega arith) in
+      rw (← h) (rw (add-one i) at (list_all_more p xs i d (omega arith)))
 
--- of all of a list
-pub all_list : (p : ℕ → Bool) (xs : List ℕ) → list_all p xs ≡ all (length xs) (λ j. p (get_or xs j 0))
-all_list p xs = rw (take-length xs) at (list_all_first p xs (length xs) (omega arith))
+  -- of all of a list
+  pub all_list : (xs : List X) → list_all p xs ≡ all (length xs) (λ j. p (get_or xs j d))
+  all_list xs = rw (take-length xs) at (list_all_first xs (length xs) (omega arith))
 
--- of the first n indices
-pub all_indices : (p : ℕ → Bool) (n : ℕ) → list_all p (range_with_len 0 n) ≡ all n p
-all_indices p n =
-    all_list p (range_with_len 0 n) ∙ rw (length-range_with_len 0 n)
-    (all_ext n (λ j. p (get_or (range_with_len 0 n) j 0)) p (λ j l. ap p (get_or-range_with_len 0 n j 0 l ∙ zero-add j)))
+-- so many rows
+length_rows : (w n : ℕ) (l : List ℕ) → length (first_chunks w n l) ≡ n
+length_rows w zero l = refl
+length_rows w (suc n) l = ap suc (length_rows w n (drop w l))
+
+-- of each row of one list beside the row of another, where both have n
+pub all_rows : (n v w : ℕ) (p q : List ℕ) (test : Tab ℕ → Tab ℕ → Bool) → {j k : ℕ} → j ≡ n → k ≡ n
+    → list_all (λ (r : List ℕ × List ℕ). test (words_of r.0) (words_of r.1)) (zip (first_chunks v j p) (first_chunks w k q))
+    ≡ all n (λ i. test (cell v p i) (cell w q i))
+all_rows n v w p q test e f =
+    let ps = first_chunks v n p in
+    let qs = first_chunks w n q in
+    let of : List ℕ × List ℕ → Bool = λ r. test (words_of r.0) (words_of r.1) in
+    let long : length (zip ps qs) ≡ n = omega (arith, length-zip ps qs, length_rows v n p, length_rows w n q) in
+    let at : (i : ℕ) → i < n → of (get_or (zip ps qs) i ([], [])) ≡ test (cell v p i) (cell w q i) = λ i l.
+    ap of (get_or-zip ps qs i ([], []) (omega (arith, length_rows v n p)) (omega (arith, length_rows w n q)))
+    ∙ ap₂ test (ap words_of (row_part v n p i l) ∙ row_cells v p i) (ap words_of (row_part w n q i l) ∙ row_cells w q i) in
+    rw (e, f) (all_list of ([], []) (zip ps qs) ∙ rw long (all_ext n _ _ at))
 
 -- ---- bags
 
--- a bag in a row of 64 words: the words from the row's first on
-pub bag_row : (N M k : ℕ) (l : List ℕ) (row : ℕ) → k ≤ 64 → row * 64 + 64 ≤ length l
-    → list_all (item_in N M) (take (row * 64 + k - row * 64) (drop (row * 64) l)) ≡ bag_in N M k (cell max_objects l row)
+-- the words that a bag of k items holds are the first of its row
+pub bag_words : (N M k : ℕ) (l : List ℕ) → k ≤ 64 → 64 ≤ length l → list_all (item_in N M) (take k l) ≡ bag_in N M k (words_of l)
 unfolding bag_in max_objects
-bag_row N M k l row h fits =
-    let e : row * 64 + k - row * 64 ≡ k = omega arith in
-    let len : length (take k (drop (row * 64) l)) ≡ k = length-take-le k (drop (row * 64) l) (rw (length-drop (row * 64) l) (omega arith)) in
-    let at = λ (j : ℕ) (lt : j < k). get_or-take k (drop (row * 64) l) j 0 lt ∙ get_or-drop (row * 64) l j 0 ∙ sym (cell_in 64 l row j (omega arith)) in
-    rw (e, le-leb k 64 h)
-    (all_list (item_in N M) (take k (drop (row * 64) l)) ∙ rw len
-    (all_ext k (λ j. item_in N M (get_or (take k (drop (row * 64) l)) j 0)) (λ j. item_in N M (cell 64 l row j)) (λ j lt. ap (item_in N M) (at j lt))))
+bag_words N M k l h fits = rw (le-leb k 64 h) (list_all_first (item_in N M) 0 l k (omega arith))
 
 -- ---- words of rows
 
@@ -67,14 +74,10 @@ pub link_cell : (p : List ℕ) (i : ℕ) → cell participant_words p i 1 ≡ ge
 unfolding participant_words
 link_cell p i = cell_in 21 p i 1 (omega arith)
 
--- a node's next is the first word of its row, and the length of its bag the third
-pub next_cell : (n : List ℕ) (k : ℕ) → cell node_words n k 0 ≡ get_or n (k * 3) 0
-unfolding node_words
-next_cell n k = cell_in 3 n k 0 (omega arith) ∙ rw (add-zero (k * 3))
-
-pub len_cell : (n : List ℕ) (k : ℕ) → cell node_words n k 2 ≡ get_or n (k * 3 + 2) 0
-unfolding node_words
-len_cell n k = cell_in 3 n k 2 (omega arith)
+-- a record is read of its row alone
+pub row_record : (row : List ℕ) → record_at (cell participant_words row 0) ≡ record_at (words_of row)
+unfolding record_at cell participant_words branch
+row_record row = refl
 
 -- ---- rows and columns
 
@@ -122,7 +125,7 @@ regroup a d s t e f g h i =
     rw (p.0, p.1, q.1, r.1, u.1, v.1, w.1, x.1, y.1))
 
 -- the participants' rows are their links, their records and their bags
-participants-columns : (N M aside : ℕ) (p h : List ℕ) → all N (participant_in N M aside p h)
+participants-columns : (N M aside : ℕ) (p h : List ℕ) → all N (λ i. participant_in N M aside (cell participant_words p i) (cell max_objects h i))
     ≡ (all N (λ i. entry_pointer_in N M (cell participant_words p i 1)) && all N (λ i. record_in N M aside (record_at (cell participant_words p i)))
     && all N (λ i. bag_in N M (record_at (cell participant_words p i)).held (cell max_objects h i)))
 unfolding participant_in
@@ -133,7 +136,7 @@ participants-columns N M aside p h =
     all_both N (λ i. links i && records i) bags ∙ ap (λ (b : Bool). b && all N bags) (all_both N links records)
 
 -- the nodes' rows are their links and their bags
-nodes-columns : (N M : ℕ) (n q : List ℕ) → all M (node_row_in N M n q)
+nodes-columns : (N M : ℕ) (n q : List ℕ) → all M (λ k. node_row_in N M (cell node_words n k) (cell max_objects q k))
     ≡ (all M (λ k. node_pointer_in N M (cell node_words n k 0)) && all M (λ k. bag_in N M (cell node_words n k 2) (cell max_objects q k)))
 unfolding node_row_in
 nodes-columns N M n q = all_both M (λ k. node_pointer_in N M (cell node_words n k 0)) (λ k. bag_in N M (cell node_words n k 2) (cell max_objects q k))
@@ -141,9 +144,9 @@ nodes-columns N M n q = all_both M (λ k. node_pointer_in N M (cell node_words n
 -- row by row, or column by column
 pub in_range-rows : (N M : ℕ) (l : Lent) → let g = l.globals in
     (globals_in N M g && (within (bit_words N) N (slot_bits N g) && within (bit_words M) M (node_bits N M g))
-    && all N (participant_in N M (get_or g 4 0) l.participants l.held) && all M (node_row_in N M l.nodes l.queued))
+    && participants_in N M l && nodes_in N M l)
     ≡ in_range N M (tables_of N M l)
-unfolding in_range shared_in tables_of shared_from bag_from bits_in globals_in
+unfolding in_range shared_in tables_of shared_from bag_from bits_in globals_in participants_in nodes_in
 in_range-rows N M l =
     let g = l.globals in
     let p = l.participants in
@@ -168,16 +171,7 @@ pub sized_words : (N M : ℕ) (l : Lent)
 unfolding sized global_words participant_words node_words max_objects
 sized_words N M l = refl
 
--- what it says that sizes are taken, for lists of the right lengths. Of the limits no more is known than this: a raised one, up to 4,096,
--- changes no proof
-pub record Taken (N M : ℕ) (l : Lent) : Type 0 where
-  pub one_slot : 1 ≤ N
-  pub slots : N ≤ 4096
-  pub two_nodes : 2 ≤ M
-  pub nodes : M ≤ 4096
-  pub lengths : sized N M l ≡ true
-
--- the limits alone
+-- what it says that sizes are taken. Of the limits no more is known than this: a raised one, up to 4,096, changes no proof
 pub limits-small : (N M : ℕ) → within_limits N M ≡ true → (1 ≤ N) × ((N ≤ 4096) × ((2 ≤ M) × (M ≤ 4096)))
 unfolding within_limits max_participants max_nodes
 limits-small N M h =
@@ -190,10 +184,3 @@ limits-small N M h =
 
 -- what `sizes` cites of them
 pub ruleset limits = (limits-small)
-
--- with the lengths
-pub sizes-taken : (N M : ℕ) (l : Lent) → (within_limits N M && sized N M l) ≡ true → Taken N M l
-sizes-taken N M l h =
-    let a = both (within_limits N M) (sized N M l) h in
-    let b = limits-small N M a.0 in
-    record { one_slot = b.0; slots = b.1.0; two_nodes = b.1.1.0; nodes = b.1.1.1; lengths = a.1 }

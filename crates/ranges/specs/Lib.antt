@@ -1,3 +1,4 @@
 -- What the promises of `ranges` cite beside the definition.
 pub mod Rows
+pub mod Sizes
 pub mod Sound

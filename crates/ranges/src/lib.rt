@@ -1,28 +1,29 @@
 // Sizes and ranges: whether the lent lists have the lengths that N participants and M nodes take (refusal 2 where they have not), and
-// whether every number in them is one that may stand there (refusal 1).
+// whether every number in them is one that may stand there (refusal 1). The first makes a `Measured` of them, and the second is asked of that.
 //
 // The Rust has neither: its memory is typed, and only its own code writes to it. Here the tables come from the caller with every call, so
 // all of them is looked at before anything in them is used as an index, a length or a place.
 //
-// Each promise cites the definition that has the function's name, in specs/Ranges of `definition`, or a row of it, in specs/Rows. What reads
-// only the number of participants takes only that, and promises its answer for every number of nodes; and the other way round. N and M go as
-// two numbers, as in the definition's functions.
+// Each promise cites the definition that has the function's name, in specs/Ranges of `definition`, or a part of it, in specs/Rows and Sizes. What
+// reads only the number of participants takes only that, and promises its answer for every number of nodes; and the other way round. So N and M go
+// as two numbers: a struct of both would give what reads one of them the other too. One in the place of the other breaks a promise
+// (must-fail/node-as-slot.edit).
 #![tactic(auto)]
 
-ghost use Rattle.std.specs.Prelude.{◌≡◌, ◌&&◌, true, ℕ, ◌+◌, ◌*◌, ◌^◌, ◌≤◌, ◌<◌, length};
+ghost use Rattle.std.specs.Prelude.{◌≡◌, ◌&&◌, true, false, ℕ, ◌^◌, ◌<◌, get_or, MatchResult};
 ghost use Rattle.std.specs.List.{list_all};
-ghost use Rattle.definition.specs.Base.{all};
-ghost use Rattle.definition.specs.Bags.{max_objects};
 ghost use Rattle.definition.specs.Ranges.{slot_in, node_in, ptr_in, cursor_in, pops_in, then_in, register_in, walk_in, pop_in, push_in};
 ghost use Rattle.definition.specs.Ranges.{place_in, entry_pointer_in, head_pointer_in, node_pointer_in, end_pointer_in, item_in, bag_in};
 ghost use Rattle.definition.specs.Ranges.{within_limits, bit_words, code_in, record_in, in_range};
 ghost use Rattle.definition.specs.Codec.{place_of};
-ghost use Rattle.definition.specs.Layout.{cell, sized, slot_bits, node_bits, tables_of};
-ghost use Rattle.bits.specs.Bits.{within};
+ghost use Rattle.definition.specs.Layout.{sized, slot_bits, node_bits, tables_of};
+ghost use Rattle.bits.specs.Bits.{within, words_of};
 ghost use Rattle.lent.specs.Lists.{read};
-ghost use Rattle.ranges.specs.Rows.{participant_in, node_row_in, globals_in};
+ghost use Rattle.ranges.specs.Rows.{participant_in, participants_in, node_row_in, nodes_in, globals_in};
+ghost use Rattle.ranges.specs.Sizes.{sizes};
+ghost use Rattle.refusals.specs.Numbers.{number};
 
-use bits::{bit_words, bits_in, node_bits, node_bits_at, slot_bits};
+use bits::{FreeBits, bit_words};
 use definition::{
     Code, Cursor, Deferring, Node, Place, PopAt, Pops, Ptr, PushAt, Record, RegisterAt, Slot, Then,
     WalkAt,
@@ -30,13 +31,15 @@ use definition::{
 use flow::{Bag, Deferred, Global, Local};
 use internal::places::is_rest;
 use lent::{
-    ASIDE, BAG_LEN, BAG_WORDS, ENTRY_NEXT, LIST_HEAD, Lists, NODE_WORDS, PARTICIPANT_WORDS,
+    ASIDE, BAG_WORDS, ENTRY_NEXT, GLOBAL_WORDS, LIST_HEAD, Lists, NODE_WORDS, PARTICIPANT_WORDS,
     QUEUE_HEAD, QUEUE_TAIL,
 };
 use records::{decode, encode, load_record};
+use refusals::Refusal;
 
 // The most participants and the most nodes that are taken. Only `within_limits` reads them, and of what it answers the proofs know no more
-// than `limits-small` of proofs/Laws says.
+// than `limits-small` of proofs/Laws says. (`N` and `M` of `player` are the same numbers for another reason: they are the schedule program's
+// sizes, which stay where document 02, No. 5, raises these.)
 pub const MAX_PARTICIPANTS: usize = 32;
 
 pub const MAX_NODES: usize = 128;
@@ -51,7 +54,7 @@ fn slot_in(n: u64, s: Slot) -> bool
     s.0 < n
 }
 
-// Returns whether a node is one of `m`. (A twin of `slot_in`: a trait would be longer than this line.)
+// Returns whether a node is one of `m`. (A twin of `slot_in`, for a `Node` is no `Slot`: one function of both would be a trait and two impls.)
 #[tactic(auto, unfolding(definition::specs::Ranges::node_in))]
 fn node_in(m: u64, k: Node) -> bool
     ensures { (n : ℕ) → result ≡ node_in n m k }
@@ -84,7 +87,7 @@ fn cursor_in(n: u64, at: Cursor) -> bool
 fn pops_in(p: Pops) -> bool
     ensures { (n m : ℕ) → result ≡ pops_in n m p }
 {
-    1 <= p.left && p.left <= Global::COLLECT_STEPS
+    (1..=Global::COLLECT_STEPS).contains(&p.left)
 }
 
 // Returns whether an item that waits, and what its caller holds, are in range.
@@ -189,25 +192,6 @@ fn code_in(n: u64, m: u64, code: Code, place: Place) -> bool
     whole == code && place_in(n, m, place)
 }
 
-// Returns whether a record is in range, beside a set-aside total of `aside` nodes: a share is a running operation's.
-#[tactic(auto, unfolding(definition::specs::Ranges::record_in, definition::specs::Calls::max_count, definition::specs::Base::branch))]
-fn record_in(n: u64, m: u64, aside: u64, r: Record) -> bool
-    ensures { result ≡ record_in n m aside r }
-{
-    let Record {
-        counts,
-        share,
-        code,
-        ..
-    } = r;
-    let place = decode(code);
-    counts.guards <= Local::MAX_COUNT
-        && counts.handles <= Local::MAX_COUNT
-        && share <= aside
-        && code_in(n, m, code, place)
-        && (!is_rest(place) || share == 0)
-}
-
 // ---- words of the tables
 
 // Returns whether a word is a pointer to one of `n` entries, or null; its tag may be set, or not.
@@ -256,92 +240,13 @@ fn items_in(n: u64, m: u64, items: &[u64]) -> bool
     items.iter().all(|w| item_in(n, m, *w))
 }
 
-// Returns whether the bag in a row of `items` is in range: at most 64 items are held, and each of those is an item. Beyond its length a
-// bag holds nothing, whatever stands there.
-#[tactic(auto, unfolding(definition::specs::Ranges::bag_in, definition::specs::Bags::max_objects))]
-fn bag_in(n: u64, m: u64, k: u64, items: &[u64], row: usize) -> bool
-    requires { row * 64 + 64 ≤ length items.now }
-    ensures { result ≡ bag_in n m k (cell max_objects items.now row) }
+// Returns whether a bag of `k` items is in range: at most 64 are held, and each of those is an item. Beyond its length a bag holds nothing,
+// whatever stands there.
+#[tactic(auto, using(crate::proofs::Laws::bag_words), unfolding(definition::specs::Ranges::bag_in, definition::specs::Bags::max_objects))]
+fn bag_in(n: u64, m: u64, k: u64, bag: &[u64; BAG_WORDS]) -> bool
+    ensures { result ≡ bag_in n m k (words_of bag.now) }
 {
-    let at = row * BAG_WORDS;
-    k <= Bag::MAX_OBJECTS && items_in(n, m, &items[at..at + k as usize])
-}
-
-// Returns whether participant `i`, its link and its bag are in range.
-#[tactic(auto, using(crate::proofs::Laws::link_cell), unfolding(crate::specs::Rows::participant_in))]
-fn participant_in(l: Lists<'_>, aside: u64, i: usize) -> bool
-    requires { (i * 21 + 21 ≤ length l.participants.now) × (i * 64 + 64 ≤ length l.held.now) }
-    ensures { result ≡ participant_in l.entry.n l.entry.m aside l.entry.participants.now l.entry.held.now i }
-{
-    let n = l.n as u64;
-    let m = l.m as u64;
-    let next = l.participants[i * PARTICIPANT_WORDS + ENTRY_NEXT];
-    let r = load_record(l.participants, i);
-    entry_pointer_in(n, next) && record_in(n, m, aside, r) && bag_in(n, m, r.held, l.held, i)
-}
-
-// Returns whether every participant, its link and its bag are in range.
-fn participants_in(l: Lists<'_>, aside: u64) -> bool
-    requires { (l.n * 21 ≤ length l.participants.now) × (l.n * 64 ≤ length l.held.now) }
-    ensures { result ≡ all l.entry.n (participant_in l.entry.n l.entry.m aside l.entry.participants.now l.entry.held.now) }
-{
-    (0..l.n).all(|i| participant_in(l, aside, i))
-}
-
-// Returns whether node `k` and its bag are in range.
-#[tactic(auto, using(crate::proofs::Laws::next_cell, crate::proofs::Laws::len_cell), unfolding(crate::specs::Rows::node_row_in))]
-fn node_row_in(l: Lists<'_>, k: usize) -> bool
-    requires { (k * 3 + 3 ≤ length l.nodes.now) × (k * 64 + 64 ≤ length l.queued.now) }
-    ensures { result ≡ node_row_in l.entry.n l.entry.m l.entry.nodes.now l.entry.queued.now k }
-{
-    let n = l.n as u64;
-    let m = l.m as u64;
-    let next = l.nodes[k * NODE_WORDS];
-    let len = l.nodes[k * NODE_WORDS + BAG_LEN];
-    untagged_in(m, next) && bag_in(n, m, len, l.queued, k)
-}
-
-// Returns whether every node and its bag are in range.
-fn nodes_in(l: Lists<'_>) -> bool
-    requires { (l.m * 3 ≤ length l.nodes.now) × (l.m * 64 ≤ length l.queued.now) }
-    ensures { result ≡ all l.entry.m (node_row_in l.entry.n l.entry.m l.entry.nodes.now l.entry.queued.now) }
-{
-    (0..l.m).all(|k| node_row_in(l, k))
-}
-
-// Returns whether the words before the free bits are in range: the list's head, the queue's ends, and the set-aside total.
-#[tactic(auto, unfolding(crate::specs::Rows::globals_in))]
-fn globals_in(n: u64, m: u64, globals: &[u64]) -> bool
-    requires { 5 ≤ length globals.now }
-    ensures { result ≡ globals_in n m globals.now }
-{
-    untagged_in(n, globals[LIST_HEAD])
-        && end_pointer_in(m, globals[QUEUE_HEAD])
-        && end_pointer_in(m, globals[QUEUE_TAIL])
-        && globals[ASIDE] <= m
-}
-
-// Returns whether no bit is set that stands for no slot or no node.
-#[tactic(auto, using(definition::proofs::Lists::sized_is), unfolding(definition::specs::Ranges::bit_words, definition::specs::Layout::global_words))]
-fn free_bits_in(l: Lists<'_>) -> bool
-    requires { sized l.n l.m (read l) ≡ true }
-    ensures { result ≡ (within (bit_words l.entry.n) l.entry.n (slot_bits l.entry.n l.entry.globals.now)
-        && within (bit_words l.entry.m) l.entry.m (node_bits l.entry.n l.entry.m l.entry.globals.now)) }
-{
-    bits_in(slot_bits(l.globals, l.n), l.n) && bits_in(node_bits(l.globals, l.n, l.m), l.m)
-}
-
-// Returns whether every number of the lists is in range: refusal 1 where not.
-#[tactic(auto, using(definition::proofs::Lists::sized_is), unfolding(definition::specs::Ranges::bit_words, definition::specs::Layout::global_words))]
-pub fn in_range(l: Lists<'_>) -> bool
-    requires { sized l.n l.m (read l) ≡ true }
-    ensures { result ≡ in_range l.entry.n l.entry.m (tables_of l.entry.n l.entry.m (read l.entry)) }
-{
-    let aside = l.globals[ASIDE];
-    globals_in(l.n as u64, l.m as u64, l.globals)
-        && free_bits_in(l)
-        && participants_in(l, aside)
-        && nodes_in(l)
+    k <= Bag::MAX_OBJECTS && items_in(n, m, &bag[..k as usize])
 }
 
 // ---- sizes
@@ -351,7 +256,7 @@ pub fn in_range(l: Lists<'_>) -> bool
 fn within_limits(n: usize, m: usize) -> bool
     ensures { result ≡ within_limits n m }
 {
-    1 <= n && n <= MAX_PARTICIPANTS && 2 <= m && m <= MAX_NODES
+    (1..=MAX_PARTICIPANTS).contains(&n) && (2..=MAX_NODES).contains(&m)
 }
 
 // Returns whether each list has its length.
@@ -360,17 +265,148 @@ fn lengths(l: Lists<'_>) -> bool
     requires { (l.n < 2 ^ 32) × (l.m < 2 ^ 32) }
     ensures { result ≡ sized l.entry.n l.entry.m (read l.entry) }
 {
-    l.globals.len() == node_bits_at(l.n) + bit_words(l.m)
+    l.globals.len() == GLOBAL_WORDS + bit_words(l.n) + bit_words(l.m)
         && l.participants.len() == l.n * PARTICIPANT_WORDS
         && l.nodes.len() == l.m * NODE_WORDS
         && l.held.len() == l.n * BAG_WORDS
         && l.queued.len() == l.m * BAG_WORDS
 }
 
-// Returns whether the sizes are taken and each list has its length: refusal 2 where not. The limits come first, so that no product wraps.
+// Returns whether the sizes are taken and each list has its length. The limits come first, so that no product wraps.
 #[tactic(auto, using(crate::proofs::Laws::limits))]
 pub fn sizes(l: Lists<'_>) -> bool
-    ensures { result ≡ (within_limits l.entry.n l.entry.m && sized l.entry.n l.entry.m (read l.entry)) }
+    ensures { result ≡ sizes l.entry.n l.entry.m (read l.entry) }
 {
     within_limits(l.n, l.m) && lengths(l)
+}
+
+// ---- all lists
+
+// Lists that were measured: each has the length that N and M give it.
+#[derive(Clone, Copy)]
+pub struct Measured<'a> {
+    pub lists: Lists<'a>,
+    ghost sized: { sized lists.n lists.m (read lists) ≡ true },
+}
+
+impl<'a> Measured<'a> {
+    // Measures the lists: 2 where N or M is beyond its limits, or a list has not its length.
+    pub fn of(lists: Lists<'a>) -> Result<Measured<'a>, Refusal>
+        ensures { MatchResult result
+            (λ s. (s.lists ≡ lists.entry) × (sizes lists.entry.n lists.entry.m (read lists.entry) ≡ true))
+            (λ r. (number r ≡ 2) × (sizes lists.entry.n lists.entry.m (read lists.entry) ≡ false)) }
+    {
+        if sizes(lists) {
+            Ok(Measured { lists })
+        } else {
+            Err(Refusal::Sizes)
+        }
+    }
+
+    // Returns the set-aside total.
+    #[tactic(auto, using(definition::proofs::Lists::sized_is))]
+    fn aside(self) -> u64
+        ensures { result ≡ get_or self.entry.lists.globals.now 4 0 }
+    {
+        self.lists.globals[ASIDE]
+    }
+
+    // Returns whether a record is in range: a share is a running operation's, and part of the set-aside total.
+    #[tactic(auto, unfolding(definition::specs::Ranges::record_in, definition::specs::Calls::max_count, definition::specs::Base::branch))]
+    fn record_in(self, r: Record) -> bool
+        ensures { result ≡ record_in self.entry.lists.n self.entry.lists.m (get_or self.entry.lists.globals.now 4 0) r }
+    {
+        let Record {
+            counts,
+            share,
+            code,
+            ..
+        } = r;
+        let l = self.lists;
+        let place = decode(code);
+        counts.guards <= Local::MAX_COUNT
+            && counts.handles <= Local::MAX_COUNT
+            && share <= self.aside()
+            && code_in(l.n as u64, l.m as u64, code, place)
+            && (!is_rest(place) || share == 0)
+    }
+
+    // Returns whether a participant's row, its link and its record, and its bag are in range.
+    #[tactic(auto, using(crate::proofs::Laws::row_record), unfolding(crate::specs::Rows::participant_in))]
+    fn participant_in(self, row: &[u64; PARTICIPANT_WORDS], bag: &[u64; BAG_WORDS]) -> bool
+        ensures { result ≡ participant_in self.entry.lists.n self.entry.lists.m (get_or self.entry.lists.globals.now 4 0)
+            (words_of row.now) (words_of bag.now) }
+    {
+        let n = self.lists.n as u64;
+        let m = self.lists.m as u64;
+        let r = load_record(row);
+        entry_pointer_in(n, row[ENTRY_NEXT]) && self.record_in(r) && bag_in(n, m, r.held, bag)
+    }
+
+    // Returns whether every participant is in range, with its bag.
+    fn participants_in(self) -> bool
+        ensures { result ≡ participants_in self.entry.lists.n self.entry.lists.m (read self.entry.lists) }
+    {
+        let rows = self.lists.participants.as_chunks::<PARTICIPANT_WORDS>().0;
+        let bags = self.lists.held.as_chunks::<BAG_WORDS>().0;
+        rows.iter()
+            .zip(bags)
+            .all(|(row, bag)| self.participant_in(row, bag))
+    }
+
+    // Returns whether a node's row and its bag are in range.
+    #[tactic(auto, unfolding(crate::specs::Rows::node_row_in))]
+    fn node_row_in(self, row: &[u64; NODE_WORDS], bag: &[u64; BAG_WORDS]) -> bool
+        ensures { result ≡ node_row_in self.entry.lists.n self.entry.lists.m (words_of row.now) (words_of bag.now) }
+    {
+        let n = self.lists.n as u64;
+        let m = self.lists.m as u64;
+        let [next, _, len] = *row;
+        untagged_in(m, next) && bag_in(n, m, len, bag)
+    }
+
+    // Returns whether every node is in range, with its bag. (A twin of `participants_in`: one function of both would take the test of a row as a closure, and
+    // its contract would have to say what that answers for each.)
+    fn nodes_in(self) -> bool
+        ensures { result ≡ nodes_in self.entry.lists.n self.entry.lists.m (read self.entry.lists) }
+    {
+        let rows = self.lists.nodes.as_chunks::<NODE_WORDS>().0;
+        let bags = self.lists.queued.as_chunks::<BAG_WORDS>().0;
+        rows.iter()
+            .zip(bags)
+            .all(|(row, bag)| self.node_row_in(row, bag))
+    }
+
+    // Returns whether the words before the free bits are in range: the list's head, the queue's ends, and the set-aside total.
+    #[tactic(auto, using(definition::proofs::Lists::sized_is), unfolding(crate::specs::Rows::globals_in))]
+    fn globals_in(self) -> bool
+        ensures { result ≡ globals_in self.entry.lists.n self.entry.lists.m self.entry.lists.globals.now }
+    {
+        let n = self.lists.n as u64;
+        let m = self.lists.m as u64;
+        let globals = self.lists.globals;
+        untagged_in(n, globals[LIST_HEAD])
+            && end_pointer_in(m, globals[QUEUE_HEAD])
+            && end_pointer_in(m, globals[QUEUE_TAIL])
+            && self.aside() <= m
+    }
+
+    // Returns whether no bit is set that stands for no slot or no node.
+    #[tactic(auto, using(definition::proofs::Lists::sized_is), unfolding(definition::specs::Ranges::bit_words, definition::specs::Layout::global_words))]
+    fn free_bits_in(self) -> bool
+        ensures { result ≡ (within (bit_words self.entry.lists.n) self.entry.lists.n (slot_bits self.entry.lists.n self.entry.lists.globals.now)
+            && within (bit_words self.entry.lists.m) self.entry.lists.m
+            (node_bits self.entry.lists.n self.entry.lists.m self.entry.lists.globals.now)) }
+    {
+        let l = self.lists;
+        FreeBits::slots(l.n).in_range(l.globals) && FreeBits::nodes(l.n, l.m).in_range(l.globals)
+    }
+
+    // Returns whether every number of the lists is in range: refusal 1 where not.
+    pub fn in_range(self) -> bool
+        ensures { result ≡ in_range self.entry.lists.n self.entry.lists.m
+            (tables_of self.entry.lists.n self.entry.lists.m (read self.entry.lists)) }
+    {
+        self.globals_in() && self.free_bits_in() && self.participants_in() && self.nodes_in()
+    }
 }

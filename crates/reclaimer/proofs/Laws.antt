@@ -2,13 +2,12 @@
 -- gives the refusal that the definition gives, and one that is fine hands on what the tables give. Assumes nothing.
 use mathlib.Core.Path.{◌≡◌, refl, ap, sym, ◌∙◌}
 use Rattle.std.specs.Prelude.{Result, Ok, Err}
-use mathlib.Core.Bool.{Bool, true, false, ◌&&◌, not}
+use mathlib.Core.Bool.{Bool, true, false, ◌&&◌}
 use mathlib.Core.List.{List, []}
 use Prim.Native.Nat.{ℕ, ◌≤◌}
 use native.Mathlib.Omega.{arith}
 use lib.Dec.{eqb}
 use lib.ListN.{length}
-use borrow.Author.Tests.{not-true, not-false}
 use Rattle.definition.specs.Base.{branch, least}
 use Rattle.definition.specs.Bags.{max_objects}
 use Rattle.definition.specs.Calls.{opens}
@@ -23,8 +22,10 @@ use Rattle.definition.specs.declared.Answer.{Answer}
 use Rattle.definition.specs.declared.Call.{Call}
 use Rattle.definition.specs.declared.End.{End}
 use Rattle.definition.proofs.Base.{both, branch_ind}
+use Rattle.ranges.specs.Sizes.{sizes}
 use Rattle.ranges.proofs.Laws.{limits-small}
 use Rattle.refusals.specs.declared.Refusal.{Refusal}
+use Rattle.refusals.specs.Numbers
 use Rattle.refusals.proofs.Numbers.{positive}
 use Rattle.checks.specs.Refusals.{sized_first, register_refusal, call_refusal, step_refusal}
 use Rattle.checks.proofs.Laws.{register_fine, call_fine, step_fine}
@@ -32,7 +33,8 @@ use Rattle.step.specs.Steps.{Steps, Leaves}
 use Rattle.enroll.specs.Enroll.{Enrolls, Enrolled}
 use Rattle.enroll.proofs.Laws.{may_enroll, leaves-enrolled}
 use Rattle.call.specs.Calls.{Calls}
-use Rattle.reclaimer.specs.Outcomes.{outcome_of, number_of, refused_as}
+use Rattle.refusals.specs.Numbers.{number}
+use Rattle.reclaimer.specs.Outcomes.{outcome_of, refused_as}
 
 -- an answer that is no refusal
 unfoldable pub Goes : Answer → Type 0
@@ -55,11 +57,11 @@ given-goes N M l f out (Answer.More k) g r l' f' h = rw (h.answer, h.lent, h.fre
 given-goes N M l f out (Answer.Refused x) g r l' f' h = absurd g
 
 -- what a check says: its number is 0 where it finds all fine, and is not where it refuses
-pub fine_is : (c : Result Unit Refusal) (u : Unit) (k : ℕ) → number_of c ≡ k → c ≡ Ok u → k ≡ 0
-fine_is c u k e is = sym e ∙ ap number_of is
+pub fine_is : (c : Result Unit Refusal) (u : Unit) (k : ℕ) → Numbers.refused c ≡ k → c ≡ Ok u → k ≡ 0
+fine_is c u k e is = sym e ∙ ap Numbers.refused is
 
-pub refused_is : (c : Result Unit Refusal) (x : Refusal) (k : ℕ) → number_of c ≡ k → c ≡ Err x → eqb k 0 ≡ false
-refused_is c x k e is = rw (sym e ∙ ap number_of is) (positive x)
+pub refused_is : (c : Result Unit Refusal) (x : Refusal) (k : ℕ) → Numbers.refused c ≡ k → c ≡ Err x → eqb k 0 ≡ false
+refused_is c x k e is = rw (sym e ∙ ap Numbers.refused is) (positive x)
 
 module _ (N M : ℕ) (l : Lent) (f : List ℕ) (t : Tables) (k : ℕ) (out : Out) where
   -- sizes, then a list of checks whose first refusal is k: refused; fine
@@ -84,7 +86,7 @@ module _ (N M : ℕ) (l : Lent) (f : List ℕ) (checks : Tables → List Check) 
   first = sized_first N M l (refusal (checks (tables_of N M l)))
 
   -- refused
-  pub refuses : (c : Result Unit Refusal) → number_of c ≡ first → (x : Refusal) → c ≡ Err x → (r : Answer) → r ≡ refused_as c
+  pub refuses : (c : Result Unit Refusal) → Numbers.refused c ≡ first → (x : Refusal) → c ≡ Err x → (r : Answer) → r ≡ refused_as c
       → record { answer = r; lent = l; freed = f } ≡ whole
   unfolding lending unless
   refuses c e x is r a =
@@ -94,7 +96,7 @@ module _ (N M : ℕ) (l : Lent) (f : List ℕ) (checks : Tables → List Check) 
       ∙ first_refuses N M l f t k (go t) (within_limits N M && sized N M l) (refused_is c x first e is)
 
   -- fine
-  pub goes_on_lem : (c : Result Unit Refusal) → number_of c ≡ first → (u : Unit) → c ≡ Ok u → Goes (go (tables_of N M l)).answer
+  pub goes_on_lem : (c : Result Unit Refusal) → Numbers.refused c ≡ first → (u : Unit) → c ≡ Ok u → Goes (go (tables_of N M l)).answer
       → (r : Answer) (l' : Lent) (f' : List ℕ) → Leaves N M (go (tables_of N M l)) f r l' f' → record { answer = r; lent = l'; freed = f' } ≡ whole
   unfolding lending unless
   goes_on_lem c e u is g r l' f' h =
@@ -105,21 +107,24 @@ module _ (N M : ℕ) (l : Lent) (f : List ℕ) (checks : Tables → List Check) 
 
 -- ---- a fresh start
 
-module _ (N M : ℕ) (l : Lent) (b : Bool) (e : b ≡ (within_limits N M && sized N M l)) where
-  pub start_refuses : not b ≡ true → record { answer = Answer.Refused 2; lent = l; freed = [] } ≡ start_lent N M l
+module _ (N M : ℕ) (l : Lent) where
+  -- sizes that are not right are refused
+  pub start_refuses : {A : Type 0} (c : Result A Refusal) (x : Refusal) → (number x ≡ 2) × (sizes N M l ≡ false)
+      → c ≡ Err x → (r : Answer) → r ≡ refused_as c → record { answer = r; lent = l; freed = [] } ≡ start_lent N M l
   unfolding start_lent lending branch
-  start_refuses h = rw (sym e ∙ not-true b h)
+  start_refuses c x e is r a = rw (a, is, e.0, e.1)
 
-  pub may_start : not b ≡ false → (1 ≤ M) × (sized N M l ≡ true)
+  -- right ones are what a fresh start asks
+  pub may_start : sizes N M l ≡ true → (1 ≤ M) × (sized N M l ≡ true)
   may_start h =
-      let s = both (within_limits N M) (sized N M l) (sym e ∙ not-false b h) in
+      let s = both (within_limits N M) (sized N M l) h in
       let m = limits-small N M s.0 in
       (omega arith, s.1)
 
   -- the five lists are the fresh ones
-  pub started : not b ≡ false → (l' : Lent) → l' ≡ lent_of N M (fresh N M) → outcome_of (Answer.Done 0 0) l' [] ≡ start_lent N M l
+  pub started : sizes N M l ≡ true → (l' : Lent) → l' ≡ lent_of N M (fresh N M) → outcome_of (Answer.Done 0 0) l' [] ≡ start_lent N M l
   unfolding start_lent lending given branch
-  started u l' a = rw (a, sym e ∙ not-false b u)
+  started h l' a = rw (a, h)
 
 -- ---- a step
 
@@ -128,7 +133,7 @@ step-goes : (marked : Bool) (M p : ℕ) (t : Tables) → Goes (take_marked marke
 unfolding take_marked take_step follow
 step-goes marked M p t = branch_ind (λ (out : Out). Goes out.answer) (fails marked (asks (rule_at M p t))) (λ _. answer-goes _ _) (λ _. answer-goes _ _)
 
-module _ (N M p : ℕ) (l : Lent) (f : List ℕ) (c : Result Unit Refusal) (e : number_of c ≡ step_refusal N M l (length f) p) where
+module _ (N M p : ℕ) (l : Lent) (f : List ℕ) (c : Result Unit Refusal) (e : Numbers.refused c ≡ step_refusal N M l (length f) p) where
   pub step_refuses : (marked : Bool) (x : Refusal) → c ≡ Err x → (r : Answer) → r ≡ refused_as c
       → record { answer = r; lent = l; freed = f } ≡ step_lent N M l p marked f
   unfolding step_lent step step_refusal
@@ -148,7 +153,7 @@ module _ (N M p : ℕ) (l : Lent) (f : List ℕ) (c : Result Unit Refusal) (e : 
 
 -- ---- a registration
 
-module _ (N M : ℕ) (l : Lent) (c : Result Unit Refusal) (e : number_of c ≡ register_refusal N M l) where
+module _ (N M : ℕ) (l : Lent) (c : Result Unit Refusal) (e : Numbers.refused c ≡ register_refusal N M l) where
   pub register_refuses : (x : Refusal) → c ≡ Err x → (r : Answer) → r ≡ refused_as c → record { answer = r; lent = l; freed = [] } ≡ register_lent N M l
   unfolding register_lent register register_refusal
   register_refuses x is r a = refuses N M l [] (register_checks N M) (λ t. enrolled (least N t.slot_free) t) c e x is r a
@@ -167,7 +172,7 @@ module _ (N M : ℕ) (l : Lent) (c : Result Unit Refusal) (e : number_of c ≡ r
 
 -- ---- a call
 
-module _ (N M p : ℕ) (k : Call) (l : Lent) (c : Result Unit Refusal) (e : number_of c ≡ call_refusal N M l p k) where
+module _ (N M p : ℕ) (k : Call) (l : Lent) (c : Result Unit Refusal) (e : Numbers.refused c ≡ call_refusal N M l p k) where
   pub call_refuses : (x : Refusal) → c ≡ Err x → (r : Answer) → r ≡ refused_as c → record { answer = r; lent = l; freed = [] } ≡ call_lent N M l p k
   unfolding call_lent call call_refusal
   call_refuses x is r a = refuses N M l [] (call_checks N M p k) (λ t. follow p (opens N k (the p t)) t) c e x is r a

@@ -1,10 +1,10 @@
-// The public calls of document 01. None asks anything of its caller: each looks first, and a refusal leaves every lent word as it was.
+// The public calls of document 01. None asks anything of its caller: each checks first, and a call that is refused leaves every lent word as it was.
 //
-// A call is lent the five lists with the sizes that they are for (crate `lent`). A promise is one equation, and one thing more: that the value
-// lends the same lists afterwards. The right side of the equation is the outcome that the definition gives for every input (specs/Public of
-// `definition`), its left side the answer with every lent list as the call leaves it; so two outcomes that meet it are equal (proofs/One).
+// A call is lent the five lists and their sizes as one value (crate `lent`). It promises that its answer and the lists afterwards are the outcome
+// that the definition gives for its input (specs/Public of `definition`), so that two outcomes which meet the promise are equal (proofs/One); and
+// that the value lends the same lists as before.
 //
-// Document 01 names the form in which a check's answer is opened: `let .. else`, and a refusal is returned at once.
+// A check's answer is opened by `let .. else`, and a refusal is returned at once: the form that document 01 names.
 #![tactic(auto)]
 
 ghost use Rattle.std.specs.Prelude.{◌≡◌, []};
@@ -19,13 +19,13 @@ use checks::{check_call, check_register, check_step};
 use definition::{Answer, Call, Report};
 use enroll::enroll;
 use lent::{Lists, ListsMut};
-use ranges::sizes;
+use ranges::Measured;
 use refusals::Refusal;
 use step::take_step;
 use survey::{check_survey, fill_reports};
 
-// Returns what a check says as an answer: the number of its refusal. It takes the whole answer, since `let .. else` opens that for the callers; of one
-// that is fine nothing asks, and it has the definition's number of no refusal.
+// Returns the refusal of a check as an answer. It takes the whole `Result`, since the `else` of a `let .. else` is not given the error. No caller comes
+// with `Ok`; for that the answer has 0, the definition's number of no refusal.
 fn refused<T: Copy>(checked: Result<T, Refusal>) -> Answer
     ensures { result ≡ refused_as checked }
 {
@@ -40,9 +40,10 @@ pub fn start(l: &mut ListsMut<'_>) -> Answer
     ensures outcome { outcome_of result (lent l.new) [] ≡ start_lent l.old.n l.old.m (lent l.old) }
     ensures same { Same l.old l.new }
 {
-    if !sizes(l.read()) {
-        return Answer::from(Refusal::Sizes);
-    }
+    let measured = Measured::of(l.read());
+    let Ok(_) = measured else {
+        return refused(measured);
+    };
     start::start(l);
     Answer::Done(0, 0)
 }
@@ -71,7 +72,7 @@ pub fn call(l: &mut ListsMut<'_>, p: usize, c: Call) -> Answer
     take_call(l, p, c)
 }
 
-// The seven by their names, as document 01 lists the calls; `call` is the seven in one.
+// The seven calls of a participant by their names, as document 01 lists them; `call` makes any of them.
 
 // internal.rs, `Local::acquire_handle`: one handle more.
 pub fn acquire(l: &mut ListsMut<'_>, p: usize) -> Answer

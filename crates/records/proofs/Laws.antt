@@ -8,7 +8,7 @@ use Prim.Native.Nat.{ℕ, suc, ◌+◌, ◌*◌, ◌/◌, ◌%◌, ◌≤◌, �
 use native.Mathlib.Nat.{add-zero, mul-add-div_right, mul-add-mod_self_right, div-eq_of_lt, mod-eq_of_lt}
 use native.Mathlib.Omega.{arith}
 use lib.Dec.{eqb, ltb}
-use lib.ListN.{length, get_or, set, length-set}
+use lib.ListN.{length, get_or, set, take, drop, length-set}
 use lib.Seq.{sets, sets-eq, length-sets, drop-drop, get_or-set_same, get_or-set_other}
 use borrow.Rule.Slice.PartMut.{put_mid}
 use Rattle.std.proofs.Common.{append_assoc}
@@ -19,7 +19,10 @@ use Rattle.definition.proofs.Lists.{cell_in}
 use Rattle.definition.specs.Bags.{max_objects}
 use Rattle.definition.specs.Tables.{with_own}
 use Rattle.definition.specs.Layout.{Lent, participant_words, node_words, cell, record_at, record_words, shared_from, bag_from, slot_bits, node_bits, tables_of}
+use Rattle.definition.specs.Codec.{participant_of}
 use Rattle.definition.specs.declared.Record.{Record}
+use Rattle.definition.specs.declared.Participant.{Participant}
+use Rattle.lent.proofs.Laws.{one_row}
 use Rattle.records.specs.Stores.{stored_record, stored_lent}
 
 -- ---- tables
@@ -135,6 +138,22 @@ cell-sets w l i c (v ∷ vs) p q =
     ∙ rw (cell-set w l i c v (omega arith) (omega arith), put_same, put-put)
 
 -- ---- a participant's record
+
+-- the record in a row alone, by its words
+pub row_words : (row : List ℕ) → record_at (cell participant_words row 0) ≡ record_at (λ c. get_or row c 0)
+unfolding record_at cell participant_words branch
+row_words row = refl
+
+-- the cells of a row alone are those of the row
+pub row_alone : (l : List ℕ) (p : ℕ) → cell participant_words (take 21 (drop (p * 21) l)) 0 ≡ cell participant_words l p
+unfolding participant_words
+row_alone l p = one_row 21 l p
+
+-- so the participant that was read of a row is that of the list
+pub loaded : (l row : List ℕ) (p : ℕ) (o : Participant) → row ≡ take 21 (drop (p * 21) l) → o ≡ participant_of (record_at (cell participant_words row 0))
+    → o ≡ participant_of (record_at (cell participant_words l p))
+loaded l row p o e h = h ∙ ap (λ (r : List ℕ). participant_of (record_at (cell participant_words r 0))) e
+    ∙ ap (λ (t : Tab ℕ). participant_of (record_at t)) (row_alone l p)
 
 -- what was written is read back
 record_back : (row : Tab ℕ) (r : Record) → record_at (puts row 2 (record_words r)) ≡ r

@@ -4,15 +4,17 @@
 // steps, so each of the thirty places has a number, and what it carries has a column. The first two words of a row are shared (crate
 // `words`); the nineteen after them are the participant's own, and only these are read and written here.
 //
-// Each promise cites the definition of like name: specs/Codec and specs/Layout of `definition`, and specs/Stores. (What reads a code is no `From`: an
-// impl would have to stand with the types, in `definition`, of which the form in a table is one use among others.) A pointer
-// is written as 2(i + 1), so what writes one asks that this fits a word, `PointersFit`: it does for any place that was read, and for any
-// that is in range (proofs/Fits).
+// Each promise cites the definition of like name: specs/Codec and specs/Layout of `definition`, and specs/Stores. Neither `encode` nor `decode` is a
+// `From`: an impl would have to stand with the types, in `definition`; `decode` needs `pointee` of `flow`, which stands above that, and what writes
+// a code has a `requires`, which `From` cannot have. What `decode` calls reads a few columns of a code each, and is no conversion of one.
+//
+// A pointer is written as 2(i + 1), so what writes one asks that this fits a word, `PointersFit`: it does for any place that was read, and for any that is
+// in range (proofs/Fits). Eight functions ask it by `requires`, and by no type: places and pointers are the definition's types, which hold any number.
 #![tactic(auto)]
 
-ghost use Rattle.std.specs.Prelude.{◌≡◌, ◌+◌, ◌*◌, ◌≤◌, length, get_or};
+ghost use Rattle.std.specs.Prelude.{◌≡◌, ◌+◌, ◌*◌, ◌≤◌, length};
 ghost use Rattle.definition.specs.Codec.{bare, pointing, walking, popping, then_code, pushing, code_of};
-ghost use Rattle.definition.specs.Codec.{owner_of, cursor_of, try_of, pops_of, then_of, place_of, record_of, participant_of};
+ghost use Rattle.definition.specs.Codec.{cursor_of, try_of, pops_of, then_of, place_of, record_of, participant_of};
 ghost use Rattle.definition.specs.Layout.{participant_words, cell, record_at, record_words};
 ghost use Rattle.records.specs.Stores.{PointersFit, stored_record};
 
@@ -241,18 +243,6 @@ pub fn encode(place: Place) -> Code
 
 // ---- and back
 
-// Returns the owner that a number says: any number says one, as in the definition, so this is no `TryFrom`.
-#[tactic(auto, unfolding(definition::specs::Codec::owner_of, definition::specs::Base::branch))]
-fn owner_of(n: u64) -> Owner
-    ensures { result ≡ owner_of n }
-{
-    match n {
-        0 => Owner::Pin,
-        1 => Owner::Flush,
-        _ => Owner::Finalize,
-    }
-}
-
 // Returns where an iteration stands.
 #[tactic(auto, using(definition::proofs::Preds::pred_read))]
 fn cursor_of(c: Code) -> Cursor
@@ -269,7 +259,7 @@ fn try_of(c: Code) -> Try
     ensures { result ≡ try_of c }
 {
     Try {
-        owner: owner_of(c.owner),
+        owner: Owner::from(c.owner),
         epoch: Epoch(c.epoch),
     }
 }
@@ -279,7 +269,7 @@ fn pops_of(c: Code) -> Pops
     ensures { result ≡ pops_of c }
 {
     Pops {
-        owner: owner_of(c.owner),
+        owner: Owner::from(c.owner),
         epoch: Epoch(c.epoch),
         left: c.left,
     }
@@ -309,13 +299,13 @@ pub fn decode(c: Code) -> Place
         1 => Place::Register(RegisterAt::Head),
         2 => Place::Register(RegisterAt::Next(pointee(c.succ))),
         3 => Place::Register(RegisterAt::Link(pointee(c.succ))),
-        4 => Place::PinEpoch(owner_of(c.owner)),
-        5 => Place::PinWord(owner_of(c.owner), Epoch(c.epoch)),
+        4 => Place::PinEpoch(Owner::from(c.owner)),
+        5 => Place::PinWord(Owner::from(c.owner), Epoch(c.epoch)),
         6 => Place::Repin(RepinAt::Word),
         7 => Place::Repin(RepinAt::Epoch(Epoch(c.epoch))),
         8 => Place::Repin(RepinAt::Store(Epoch(c.epoch))),
         9 => Place::UnpinWord,
-        10 => Place::AdvanceEpoch(owner_of(c.owner)),
+        10 => Place::AdvanceEpoch(Owner::from(c.owner)),
         11 => Place::Walk(try_of(c), WalkAt::Head),
         12 => Place::Walk(try_of(c), WalkAt::Next(cursor_of(c))),
         13 => Place::AdvanceWord(try_of(c), Slot(c.curr), pointee(c.succ)),
@@ -343,11 +333,11 @@ pub fn decode(c: Code) -> Place
 
 // ---- records in their table
 
-// Returns the record in a participant's row. (By the columns' numbers: a slice is no array, and a pattern would need an arm for other lengths.)
-#[tactic(auto, unfolding(definition::specs::Layout::record_at))]
-fn record_from(row: &[u64]) -> Record
-    requires { length row.now ≡ 21 }
-    ensures { result ≡ record_at (λ c. get_or row.now c 0) }
+// Returns the record in a participant's row. (By the columns' numbers: a pattern of the row would name each word on a line of its own, and
+// each column once more below.)
+#[tactic(auto, using(crate::proofs::Laws::row_words), unfolding(definition::specs::Layout::record_at))]
+pub fn load_record(row: &[u64; PARTICIPANT_WORDS]) -> Record
+    ensures { result ≡ record_at (cell participant_words row.now 0) }
 {
     Record {
         counts: Counts {
@@ -376,27 +366,17 @@ fn record_from(row: &[u64]) -> Record
     }
 }
 
-// Returns the record of participant `p`.
-pub fn load_record(participants: &[u64], p: usize) -> Record
-    requires { p * 21 + 21 ≤ length participants.now }
-    ensures { result ≡ record_at (cell participant_words participants.now p) }
-{
-    let at = p * PARTICIPANT_WORDS;
-    record_from(&participants[at..at + PARTICIPANT_WORDS])
-}
-
-// Returns participant `p`.
+// Returns the participant in its row.
 #[tactic(auto, unfolding(definition::specs::Codec::participant_of))]
-pub fn load(participants: &[u64], p: usize) -> Participant
-    requires { p * 21 + 21 ≤ length participants.now }
-    ensures { result ≡ participant_of (record_at (cell participant_words participants.now p)) }
+pub fn load(row: &[u64; PARTICIPANT_WORDS]) -> Participant
+    ensures { result ≡ participant_of (record_at (cell participant_words row.now 0)) }
 {
     let Record {
         counts,
         held,
         share,
         code,
-    } = load_record(participants, p);
+    } = load_record(row);
     Participant {
         counts,
         held,
@@ -419,6 +399,8 @@ fn record_words(r: Record) -> [u64; RECORD_WORDS]
 }
 
 // Stores the record of participant `p`. Its two shared words stay as they are.
+// (It takes the list and not the row: of a list whose row was lent by `as_chunks_mut` nothing is known afterwards, and of a function that
+// lends the row as `&mut [u64; 21]` the check proves no lending clause, since it does not follow a part by its range.)
 #[tactic(auto, using(crate::proofs::Laws::copied))]
 pub fn store_record(participants: &mut [u64], p: usize, r: Record)
     requires { p * 21 + 21 ≤ length participants.old }

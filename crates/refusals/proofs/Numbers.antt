@@ -1,7 +1,7 @@
 -- The numbers of the refusals: none is 0, and no two refusals share one, so that a number fixes what a check answered. Assumes nothing.
 use mathlib.Core.Path.{◌≡◌, refl, ap, sym, ◌∙◌}
-use mathlib.Core.Bool.{true, false, true≢false}
-use mathlib.Core.List.{List, [], ◌∷◌}
+use mathlib.Core.Bool.{false, true≢false}
+use mathlib.Core.List.{[], ◌∷◌}
 use Prim.Native.Nat.{ℕ}
 use lib.Dec.{eqb}
 use lib.ListN.{get_or}

@@ -19,6 +19,6 @@ number Refusal.Record = 13
 number Refusal.HeldAlready = 16
 
 -- of a check's answer: the number of the refusal, and 0 where there is none
-abbrev pub refused : Result Unit Refusal → ℕ
-refused (Ok u) = 0
+abbrev pub refused : {A : Type 0} → Result A Refusal → ℕ
+refused (Ok a) = 0
 refused (Err r) = number r

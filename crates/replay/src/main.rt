@@ -7,9 +7,10 @@
 // schedules, records and words it compared, and how many differ.
 #![tactic(auto)]
 
-ghost use Rattle.std.specs.Prelude.{◌≡◌, ◌+◌, ◌<◌, ◌≤◌, length, IfSome};
+ghost use Rattle.std.specs.Prelude.{◌+◌, ◌*◌, ◌<◌, ◌≤◌, length, IfSome};
+ghost use Rattle.definition.specs.Ranges.{bit_words};
 
-use bits::bit_words;
+use bits::{FreeBits, bit_words};
 use definition::Answer;
 use lent::{
     ASIDE, BAG_WORDS, GLOBAL_WORDS, ListsMut, NODE_WORDS, PARTICIPANT_WORDS, QUEUE_HEAD, QUEUE_TAIL,
@@ -17,6 +18,7 @@ use lent::{
 use player::{M, N, Tables};
 use script::Action;
 use std::cmp::min;
+use std::fmt;
 use std::io::{self, Write};
 
 // ---- lines
@@ -30,13 +32,16 @@ enum Kind {
     Odd,
 }
 
+// How many numbers a line may have.
+const NUMBERS: usize = 1024;
+
 // A line, as far as it is read: what it is, how many numbers it has, those, and the one that is being read. Their number stands beside them, since
 // the memory is fixed: no heap.
 #[derive(Drop)]
 struct Line {
     kind: Kind,
     fields: usize,
-    numbers: [u64; 1024],
+    numbers: [u64; NUMBERS],
     number: Option<u64>,
     ghost within: { fields ≤ 1024 },
 }
@@ -100,7 +105,8 @@ enum Said {
 }
 
 impl Said {
-    // Returns the answer of those numbers: 0 is more, which has the value 0, 1 is done, and 2 is refused.
+    // Returns the answer of those numbers: 0 is more, which has the value 0, 1 is done, and 2 is refused. (Here and in `Record` no `TryFrom`: there is no
+    // error to tell.)
     fn new(number: u64, value: u64) -> Option<Said> {
         match (number, value) {
             (0, 0) => Some(Said::More),
@@ -174,7 +180,8 @@ struct Sizes {
     ghost taken: { (n ≤ 32) × (m ≤ 128) },
 }
 
-// Makes a call on the first parts of the lists, as long as they are for those sizes.
+// Makes a call on the first parts of the lists, as long as they are for those sizes. (`lend` of `Tables` is for its own sizes alone, and promises what the
+// lists are afterwards; of parts of them that would be a longer promise, and nothing here asks for it.)
 #[tactic(auto, unfolding(definition::specs::Ranges::bit_words))]
 fn ask<F: FnOnce(&mut ListsMut<'_>, &mut [u64]) -> Answer>(
     t: &mut Tables,
@@ -209,23 +216,17 @@ fn ask<F: FnOnce(&mut ListsMut<'_>, &mut [u64]) -> Answer>(
 // The first cell of the slots and of the nodes, how many each has, where its items begin, and how many cells there are.
 const SLOTS: usize = 16;
 
-const NODES: usize = SLOTS + BLOCK * N;
+const NODES: usize = SLOTS + EACH * N;
 
-const BLOCK: usize = 128;
+const EACH: usize = 128;
 
 const ITEMS: usize = 8;
 
-const CELLS: usize = NODES + BLOCK * M;
+const CELLS: usize = NODES + EACH * M;
 
-// How many words of a participant's row are compared: its two shared words, its counts, and how many items its bag has.
+// How many words of a row are compared at most: all of a node's, and of a participant's its two shared words, its counts, and how many items its
+// bag has.
 const COUNTED: usize = 6;
-
-// Where the free bits of the slots and of the nodes begin in `globals`, and the pointer to node 0.
-const SLOT_BITS: usize = GLOBAL_WORDS;
-
-const NODE_BITS: usize = GLOBAL_WORDS + 1;
-
-const SENTINEL: u64 = 2;
 
 // What differs: the word of a cell, the answer, or the freed tokens.
 #[derive(Clone, Copy)]
@@ -235,14 +236,15 @@ enum Where {
     Freed,
 }
 
-impl Where {
-    // Returns the number that is printed: a cell's own is below `CELLS`.
-    fn number(self) -> usize {
-        match self {
+// Shown by its number: a cell's own is below `CELLS`.
+impl fmt::Display for Where {
+    fn fmt<W: fmt::Write>(&self, f: &mut fmt::Formatter<W>) -> fmt::Result {
+        let number = match *self {
             Where::Cell(cell) => cell,
             Where::Answer => CELLS,
             Where::Freed => CELLS + 1,
-        }
+        };
+        write!(f, "{number}")
     }
 }
 
@@ -279,16 +281,9 @@ impl Seen {
     }
 }
 
-// Returns `true` if index `i` is taken, by the free bits from word `at` on.
-fn taken(globals: &[u64; NODE_BITS + 2], at: usize, i: usize) -> bool
-    requires { (at ≤ NODE_BITS) × (i < M) }
-{
-    (globals[at + i / 64] >> (i % 64)) % 2 == 0
-}
-
 // Returns `true` if a cell is the first of a slot's or of a node's.
 fn is_first(at: usize) -> bool {
-    at >= SLOTS && (at - SLOTS) % BLOCK == 0
+    at >= SLOTS && (at - SLOTS) % EACH == 0
 }
 
 // ---- the course
@@ -300,7 +295,7 @@ struct Difference {
     at: Where,
 }
 
-// What was counted, and the first difference.
+// What was counted, and a difference of the first record that has one: its last.
 #[derive(Clone, Copy, Default)]
 struct Course {
     lines: u64,
@@ -326,20 +321,22 @@ impl Course {
         let line = self.lines;
         self.first = self.first.or(seen.last.map(|at| Difference { line, at }));
     }
+}
 
-    // Says what was compared, how many differ, and where the first difference is.
-    fn report<W: Write>(&self, writer: &mut W) -> io::Result<()> {
-        writeln!(writer, "{} schedules", self.schedules)?;
-        writeln!(writer, "{} records", self.records)?;
-        writeln!(writer, "{} words", self.words)?;
-        writeln!(writer, "{} lines not understood", self.odd)?;
-        writeln!(writer, "{} differences", self.differ)?;
+// What was compared, how many differ, and where that difference is.
+impl fmt::Display for Course {
+    fn fmt<W: fmt::Write>(&self, f: &mut fmt::Formatter<W>) -> fmt::Result {
+        writeln!(f, "{} schedules", self.schedules)?;
+        writeln!(f, "{} records", self.records)?;
+        writeln!(f, "{} words", self.words)?;
+        writeln!(f, "{} lines not understood", self.odd)?;
+        writeln!(f, "{} differences", self.differ)?;
         if let Some(Difference { line, at }) = self.first {
-            writeln!(writer, "{line} is the line of the first")?;
+            writeln!(f, "{line} is the line of the first")?;
+            let (answer, freed) = (Where::Answer, Where::Freed);
             writeln!(
-                writer,
-                "{} is its cell, 20496 the answer, 20497 the freed tokens",
-                at.number()
+                f,
+                "{at} is its cell, {answer} the answer, {freed} the freed tokens"
             )?;
         }
         Ok(())
@@ -397,8 +394,8 @@ impl Replay {
         };
         let answer = ask(&mut self.tables, sizes, |l, _| reclaimer::start(l));
         self.cells.fill(0);
-        self.cells[QUEUE_HEAD] = SENTINEL;
-        self.cells[QUEUE_TAIL] = SENTINEL;
+        self.cells[QUEUE_HEAD] = start::SENTINEL;
+        self.cells[QUEUE_TAIL] = start::SENTINEL;
         self.cells[NODES] = 1;
         if Said::from(answer) == Said::Done(0) {
             self.sizes = sizes;
@@ -437,7 +434,7 @@ impl Replay {
             return;
         }
         if value == 0 && is_first(at) {
-            let end = min(at + BLOCK, self.cells.len());
+            let end = min(at + EACH, self.cells.len());
             self.cells[at..end].fill(0);
         } else {
             self.cells[at] = value;
@@ -445,40 +442,50 @@ impl Replay {
     }
 
     // Compares all words: the four global ones, the slots and the nodes.
+    #[tactic(auto, unfolding(definition::specs::Layout::global_words, definition::specs::Ranges::bit_words))]
     fn compare(&self) -> Seen {
         let mut seen = Seen::default();
         seen.row(&self.cells, 0, &self.tables.globals[..ASIDE]);
-        for p in 0..self.sizes.n {
-            let row = PARTICIPANT_WORDS * p;
-            let bag = BAG_WORDS * p;
-            self.compare_block(
-                &mut seen,
-                SLOTS + BLOCK * p,
-                taken(&self.tables.globals, SLOT_BITS, p),
-                &self.tables.participants[row..row + COUNTED],
-                &self.tables.held[bag..bag + BAG_WORDS],
-            );
-        }
-        for i in 0..self.sizes.m {
-            let row = NODE_WORDS * i;
-            let bag = BAG_WORDS * i;
-            self.compare_block(
-                &mut seen,
-                NODES + BLOCK * i,
-                taken(&self.tables.globals, NODE_BITS, i),
-                &self.tables.nodes[row..row + NODE_WORDS],
-                &self.tables.queued[bag..bag + BAG_WORDS],
-            );
-        }
+        let slots = &self.tables.participants.as_chunks::<PARTICIPANT_WORDS>().0[..self.sizes.n];
+        let nodes = &self.tables.nodes.as_chunks::<NODE_WORDS>().0[..self.sizes.m];
+        let (slot_bits, node_bits) = (FreeBits::slots(N), FreeBits::nodes(N, M));
+        self.compare_rows(&mut seen, SLOTS, slot_bits, slots, &self.tables.held);
+        self.compare_rows(&mut seen, NODES, node_bits, nodes, &self.tables.queued);
         seen
+    }
+
+    // Compares slots, or nodes: their cells begin at `at`, and their free bits are `bits`. Cells go by their numbers and not by chunks, since the
+    // number of one that differs is printed.
+    fn compare_rows<const K: usize>(
+        &self,
+        seen: &mut Seen,
+        at: usize,
+        bits: FreeBits,
+        rows: &[[u64; K]],
+        bags: &[u64],
+    )
+        requires bits { (length rows.now ≤ bits.size) × (bits.at + bit_words bits.size ≤ 8) }
+        requires within { at + EACH * length rows.now ≤ CELLS }
+    {
+        let bags = bags.as_chunks::<BAG_WORDS>().0;
+        for (i, (row, bag)) in rows.iter().zip(bags).enumerate() {
+            let taken = !bits.is_free(&self.tables.globals, i);
+            self.compare_block(seen, at + EACH * i, taken, &row[..min(K, COUNTED)], bag);
+        }
     }
 
     // Compares a slot or a node, whose cells begin at `at`: whether it is taken, and where it is the words of its row, the last of which is how many
     // items its bag has, and these.
-    fn compare_block(&self, seen: &mut Seen, at: usize, taken: bool, row: &[u64], bag: &[u64])
-        requires within { at + BLOCK ≤ CELLS }
+    fn compare_block(
+        &self,
+        seen: &mut Seen,
+        at: usize,
+        taken: bool,
+        row: &[u64],
+        bag: &[u64; BAG_WORDS],
+    )
+        requires within { at + EACH ≤ CELLS }
         requires row { length row.now < ITEMS }
-        requires bag { length bag.now ≡ BAG_WORDS }
     {
         seen.word(self.cells[at], u64::from(taken), at);
         if self.cells[at] != 0 {
@@ -493,7 +500,7 @@ fn main(rt: HostRuntime) -> io::Result<()> {
     let mut line = Line {
         kind: Kind::Numbers,
         fields: 0,
-        numbers: [0; 1024],
+        numbers: [0; NUMBERS],
         number: None,
     };
     let mut replay = Replay {
@@ -502,7 +509,7 @@ fn main(rt: HostRuntime) -> io::Result<()> {
         sizes: Sizes { n: N, m: M },
         course: Course::default(),
     };
-    let mut block = [0u8; 65536];
+    let mut block = [0u8; stream::BLOCK];
     stream::for_each_block(&mut rt.stdin(), &mut block, |bytes| {
         for byte in bytes {
             replay.feed(&mut line, *byte);
@@ -510,5 +517,5 @@ fn main(rt: HostRuntime) -> io::Result<()> {
         Ok(())
     })?;
     replay.feed(&mut line, b'\n');
-    replay.course.report(&mut rt.stdout())
+    write!(rt.stdout(), "{}", replay.course)
 }

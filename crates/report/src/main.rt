@@ -3,7 +3,7 @@
 // items held and distance, in decimal. `./play` makes the table of its `survey` lines from them.
 #![tactic(auto)]
 
-ghost use Rattle.std.specs.Prelude.{◌≡◌, replicate, OnOk};
+ghost use Rattle.std.specs.Prelude.{◌≡◌, replicate, OnOk, Some};
 ghost use Rattle.std.specs.Io.KnownBytes.{Appends};
 ghost use Rattle.definition.specs.Survey.{survey_lent};
 ghost use Rattle.player.specs.Owned.{owned};
@@ -13,44 +13,44 @@ ghost use Rattle.survey.specs.Surveys.{blank};
 
 use definition::{Answer, Report};
 use player::{N, Tables};
+use std::fmt;
 use std::io::{self, Write};
 use survey::State;
 
-// Surveys the tables, or returns what that is refused for. The list of reports is lent here and nowhere else. (`Report` is the definition's, and has no
-// `Default`.)
+// Surveys the tables, or returns the number of its refusal, as the public call answers it and as it is printed. The list of reports is lent here and
+// nowhere else.
 fn survey(tables: &Tables) -> Result<[Report; N], u64>
     ensures { surveyed (replicate 32 (blank 0)) result ≡ survey_lent 32 128 (owned tables.now) (replicate 32 (blank 0)) }
 {
-    let blank = Report {
-        state: 0,
-        guards: 0,
-        handles: 0,
-        held: 0,
-        distance: 0,
-    };
-    let mut reports = [blank; N];
+    let mut reports = [Report::default(); N];
     match reclaimer::survey(tables.read(), &mut reports) {
         Answer::Refused(r) => Err(r),
         _ => Ok(reports),
     }
 }
 
-// Writes the line of slot `p`, unless it is free.
-#[tactic(auto, unfolding(crate::specs::Lines::line_of, definition::specs::Base::branch, survey::specs::States::state_number))]
-fn say_report<W: Write>(writer: &mut W, p: usize, r: Report) -> io::Result<()>
-    ensures { OnOk result (Appends (W.contents writer.old) (W.contents writer.new) (line_of p r)) }
-{
-    if r.state == u64::from(State::Free) {
-        return Ok(());
+// The line of a slot, by its number and its report: none where it is free.
+#[derive(Clone, Copy)]
+struct Line(usize, Report);
+
+impl fmt::Display for Line {
+    ghost output = { λ l. Some (line_of l.0 l.1) };
+
+    #[tactic(auto, unfolding(crate::specs::Lines::line_of, definition::specs::Base::branch, survey::specs::States::state_number))]
+    fn fmt<W: fmt::Write>(&self, f: &mut fmt::Formatter<W>) -> fmt::Result {
+        let Line(p, report) = *self;
+        let Report {
+            state,
+            guards,
+            handles,
+            held,
+            distance,
+        } = report;
+        if state == u64::from(State::Free) {
+            return Ok(());
+        }
+        writeln!(f, "{p} {state} {guards} {handles} {held} {distance}")
     }
-    let Report {
-        state,
-        guards,
-        handles,
-        held,
-        distance,
-    } = r;
-    writeln!(writer, "{p} {state} {guards} {handles} {held} {distance}")
 }
 
 // Writes the lines of reports.
@@ -58,7 +58,7 @@ fn say_reports<W: Write>(writer: &mut W, reports: &[Report]) -> io::Result<()>
     ensures { OnOk result (Appends (W.contents writer.old) (W.contents writer.new) (lines_of 0 reports.now)) }
 {
     for (p, report) in reports.iter().enumerate() {
-        say_report(writer, p, *report)?;
+        write!(writer, "{}", Line(p, *report))?;
     }
     Ok(())
 }
@@ -77,7 +77,7 @@ fn say_survey<W: Write>(writer: &mut W, s: Result<[Report; N], u64>) -> io::Resu
 fn main(rt: HostRuntime) -> io::Result<()> {
     let mut tables = Tables::new();
     tables.start();
-    let mut block = [0u8; 65536];
+    let mut block = [0u8; stream::BLOCK];
     let mut reader = rt.stdin();
     stream::for_each_block(&mut reader, &mut block, |bytes| {
         tables.act_all(bytes);

@@ -58,24 +58,23 @@ more_written a b c all x y z first second = record {
 }
 
 -- what stands before the place after a text that is put
-written_front : (b : List ℕ) (at : ℕ) (s b' : List ℕ) (p : ℕ) → at ≤ length b → Puts b at s b' p → take p b' ≡ take at b ++ s
+pub written_front : (b : List ℕ) (at : ℕ) (s b' : List ℕ) (p : ℕ) → at ≤ length b → Puts b at s b' p → take p b' ≡ take at b ++ s
 unfolding written
 written_front b at s b' p within puts =
     let front : length (take at b ++ s) ≡ at + length s = simp (length-append, length-take) (omega arith) in
     rw (puts.0, puts.1) (take_at (take at b ++ s) (drop (at + length s) b) (at + length s) front)
 
 -- a line more is put, and the records after it are left
-pub line_more : (fuel : ℕ) (out out' rest x after : List ℕ) (l l' : Lent) (places places' : List ℕ) (at p : ℕ) → 0 < length rest → length rest ≤ fuel
-    → x ≡ take 8 rest → after ≡ drop 8 rest → at ≤ length out
-    → Puts out at (line_from (acts 32 128 l places (action_in x))) out' p
+pub line_more : (fuel : ℕ) (put put' rest x after : List ℕ) (l l' : Lent) (places places' : List ℕ) → 0 < length rest → length rest ≤ fuel
+    → x ≡ take 8 rest → after ≡ drop 8 rest
+    → put' ≡ put ++ line_from (acts 32 128 l places (action_in x))
     → l' ≡ (acts 32 128 l places (action_in x)).lent → places' ≡ (acts 32 128 l places (action_in x)).freed
-    → take at out ++ lines_on fuel rest l places ≡ take p out' ++ lines_on fuel after l' places'
-line_more fuel out out' rest x after l l' places places' at p some few ex ea within puts el ep =
+    → put ++ lines_on fuel rest l places ≡ put' ++ lines_on fuel after l' places'
+line_more fuel put put' rest x after l l' places places' some few ex ea puts el ep =
     let s = line_from (acts 32 128 l places (action_in x)) in
     let more = lines_on fuel after (acts 32 128 l places (action_in x)).lent (acts 32 128 l places (action_in x)).freed in
     let next : lines_on fuel rest l places ≡ s ++ more = rw (ex, ea) (lines_next rest l places fuel some few) in
-    rw (el, ep) (ap (λ (r : List ℕ). take at out ++ r) next ∙ sym (append_assoc (take at out) s more)
-    ∙ ap (λ (r : List ℕ). r ++ more) (sym (written_front out at s out' p within puts)))
+    rw (el, ep, puts) (ap (λ (r : List ℕ). put ++ r) next ∙ sym (append_assoc put s more))
 
 -- where nothing else is left, the rest is written and that is all
 pub all_written : (a b c : Option (List ℕ)) (all x y : List ℕ) → Wrote a b all (x ++ y) → y ≡ [] → Appends b c x → Appends a c all

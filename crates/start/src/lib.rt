@@ -8,19 +8,20 @@
 // Each promise gives every word of the list.
 #![tactic(auto)]
 
-ghost use Rattle.std.specs.Prelude.{◌≡◌, true, ◌+◌, ◌*◌, ◌^◌, ◌≤◌, ◌<◌, length, replicate};
+ghost use Rattle.std.specs.Prelude.{◌≡◌, true, ◌+◌, ◌^◌, ◌≤◌, ◌<◌, length, replicate};
 ghost use Rattle.definition.specs.Ranges.{bit_words, fresh};
 ghost use Rattle.definition.specs.Layout.{sized, lent_of};
 ghost use Rattle.lent.specs.Lists.{lent, Same};
 ghost use Rattle.start.specs.Given.{given_from};
 
-use bits::{give, node_bits_at, slot_bits_at};
+use bits::FreeBits;
 use lent::{ListsMut, QUEUE_HEAD, QUEUE_TAIL};
 
-// The pointer to node 0.
-const SENTINEL: u64 = 2;
+// The pointer to node 0. (In digits: a constant cannot call `link`.)
+pub const SENTINEL: u64 = 2;
 
-// Returns a list of zeros, as long as its type says: to be lent as one of the five, or for the tokens that a step frees.
+// Returns a list of zeros, as long as its type says: to be lent as one of the five, or for the tokens that a step frees. (Document 01 names the form,
+// `[v; n]` with each entry stated.)
 pub fn zeros<const K: usize>() -> [u64; K]
     ensures { result ≡ replicate K 0 }
 {
@@ -28,12 +29,12 @@ pub fn zeros<const K: usize>() -> [u64; K]
 }
 
 // Gives `k` indices back, from `from` on: they are free.
-fn give_from(globals: &mut [u64], at: usize, from: usize, k: usize)
-    requires { (from + k < 2 ^ 64) × (at + bit_words (from + k) ≤ length globals.old) }
-    ensures { globals.new ≡ given_from globals.old at from k }
+fn give_from(globals: &mut [u64], bits: FreeBits, from: usize, k: usize)
+    requires { (from + k < 2 ^ 64) × (bits.at + bit_words (from + k) ≤ length globals.old) }
+    ensures { globals.new ≡ given_from globals.old bits.at from k }
 {
     for i in from..from + k {
-        give(globals, at, i);
+        bits.give(globals, i);
     }
 }
 
@@ -45,8 +46,8 @@ fn start_globals(n: usize, m: usize, globals: &mut [u64])
     globals.fill(0);
     globals[QUEUE_HEAD] = SENTINEL;
     globals[QUEUE_TAIL] = SENTINEL;
-    give_from(globals, slot_bits_at(), 0, n);
-    give_from(globals, node_bits_at(n), 1, m - 1);
+    give_from(globals, FreeBits::slots(n), 0, n);
+    give_from(globals, FreeBits::nodes(n, m), 1, m - 1);
 }
 
 // Starts all five lists.

@@ -7,7 +7,8 @@ use Prim.Native.Nat.{ℕ, ◌+◌, ◌-◌, ◌^◌, ◌≤◌, ◌<◌}
 use native.Mathlib.Omega.{arith}
 use lib.ListN.{length, get_or}
 use Rattle.definition.specs.Bags.{item_word}
-use Rattle.definition.specs.Calls.{max_token}
+use Rattle.definition.specs.Calls.{max_token, begins, opens}
+use Rattle.definition.specs.Flow.{on, done, also, finalize, placed, defer}
 use Rattle.definition.specs.Tables.{Tables}
 use Rattle.definition.specs.Layout.{Lent, cell, global_words, participant_words, record_at, bag_from, slot_bits, node_bits, tables_of, lent_of}
 use Rattle.definition.specs.Ranges.{bit_words, bag_in}
@@ -17,6 +18,8 @@ use Rattle.definition.specs.declared.Participant.{Participant}
 use Rattle.definition.specs.declared.Work.{Work}
 use Rattle.definition.specs.declared.After.{After}
 use Rattle.definition.specs.declared.Answer.{Answer}
+use Rattle.definition.specs.declared.Call.{Call}
+use Rattle.definition.proofs.Base.{branch_ind}
 use Rattle.definition.proofs.Lists.{Sized, lists_back}
 use Rattle.definition.proofs.Within.{PlaceIn, ItemIn, WorkIn}
 use Rattle.bits.proofs.Laws.{bit_words-has, bits_word-bits}
@@ -70,12 +73,41 @@ item_fits N M n m (Item.Token token) h = omega arith
 item_fits N M n m (Item.Node x) h = omega arith
 item_fits N M n m (Item.Slot x) h = omega arith
 
-work_settles : (N M p k : ℕ) (l : Lent) (f : List ℕ) → N ≤ 4096 → M ≤ 4096 → Sized N M l → p < N → 64 ≤ length f → (w : Work) → WorkIn N M w → Fits N M p k w l
-    → Settles N p k w l f
-unfolding WorkIn Fits global_words
-work_settles N M p k l f n m s hp places Work.Nothing i fit = tt
-work_settles N M p k l f n m s hp places (Work.Put item) i fit = (fit, (rw s.held (omega arith), item_fits N M n m item i))
-work_settles N M p k l f n m s hp places (Work.PutThenFree item x) i fit =
+-- places for the tokens that the work frees: none, or those of one bag
+unfoldable pub PlacesFor : Work → List ℕ → Type 0
+PlacesFor Work.Nothing f = Unit {0}
+PlacesFor (Work.Put item) f = Unit {0}
+PlacesFor (Work.PutThenFree item x) f = 64 ≤ length f
+PlacesFor (Work.Seal x e) f = Unit {0}
+
+-- so where there are those of one bag
+pub places_for : (w : Work) (f : List ℕ) → 64 ≤ length f → PlacesFor w f
+unfolding PlacesFor
+places_for Work.Nothing f h = tt
+places_for (Work.Put item) f h = tt
+places_for (Work.PutThenFree item x) f h = h
+places_for (Work.Seal x e) f h = tt
+
+-- what a call begins frees no bag, so it needs no place
+abbrev NoPlaces : List ℕ → After → Type 0
+NoPlaces f a = PlacesFor a.work f
+
+pub opens_places : (N : ℕ) (c : Call) (o : Participant) (f : List ℕ) → PlacesFor (opens N c o).work f
+unfolding PlacesFor opens begins on done also finalize placed defer
+opens_places N Call.Acquire o f = tt
+opens_places N Call.Release o f = branch_ind (NoPlaces f) _ (λ _. tt) (λ _. tt)
+opens_places N Call.Pin o f = branch_ind (NoPlaces f) _ (λ _. tt) (λ _. tt)
+opens_places N Call.Unpin o f = branch_ind (NoPlaces f) _ (λ _. tt) (λ _. tt)
+opens_places N Call.Repin o f = branch_ind (NoPlaces f) _ (λ _. tt) (λ _. tt)
+opens_places N (Call.Defer token) o f = branch_ind (NoPlaces f) _ (λ _. tt) (λ _. tt)
+opens_places N Call.Flush o f = branch_ind (NoPlaces f) _ (λ _. tt) (λ _. tt)
+
+work_settles : (N M p k : ℕ) (l : Lent) (f : List ℕ) → N ≤ 4096 → M ≤ 4096 → Sized N M l → p < N → (w : Work) → PlacesFor w f → WorkIn N M w
+    → Fits N M p k w l → Settles N p k w l f
+unfolding PlacesFor WorkIn Fits global_words
+work_settles N M p k l f n m s hp Work.Nothing places i fit = tt
+work_settles N M p k l f n m s hp (Work.Put item) places i fit = (fit, (rw s.held (omega arith), item_fits N M n m item i))
+work_settles N M p k l f n m s hp (Work.PutThenFree item x) places i fit =
     let room : k < 64 = fit.0 in
     let few = bag-small N M l.nodes l.queued x.0 fit.1.1 in
     let inside : x.0 < M = fit.1.0 in (
@@ -85,7 +117,7 @@ work_settles N M p k l f n m s hp places (Work.PutThenFree item x) i fit =
         (omega (arith, few), bag-has-bits N M l.nodes l.queued x.0 fit.1.1 (length l.globals) (rw s.globals (omega arith))),
       ),
     )
-work_settles N M p k l f n m s hp places (Work.Seal x e) i fit =
+work_settles N M p k l f n m s hp (Work.Seal x e) places i fit =
     let small : k ≤ 64 = fit.0 in
     let inside : x.0 < M = fit.1 in
     ((rw s.held (omega arith), (rw s.nodes (omega arith), rw s.queued (omega arith))), rw s.globals (omega (arith, bit_words-has x.0 M inside)))
@@ -121,9 +153,9 @@ module _ (N M p : ℕ) (l : Lent) (o : Participant) (a : After) (c : Carries N M
       record { long = omega (arith, long); covers = rw total c.covers; fits = rw total c.total }
 
   -- all that `follow` asks
-  pub may_carry : (f : List ℕ) → 64 ≤ length f → Follows N p o.held o.share a l f
+  pub may_carry : (f : List ℕ) → PlacesFor a.work f → Follows N p o.held o.share a l f
   may_carry f places = record {
-    settles = work_settles N M p o.held l f c.few.0 c.few.1 c.size c.below places a.work c.work_in fits;
+    settles = work_settles N M p o.held l f c.few.0 c.few.1 c.size c.below a.work places c.work_in fits;
     aside = aside;
     row = rw c.size.participants (let below = c.below in omega arith);
     pointers = pointers_fit N M (let n = c.few.0 in omega arith) a.participant.place c.place_in_lem;

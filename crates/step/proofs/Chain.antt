@@ -3,7 +3,7 @@
 use mathlib.Core.Path.{◌≡◌, ap, ◌∙◌}
 use mathlib.Core.Bool.{Bool, true}
 use mathlib.Core.List.{List}
-use Prim.Native.Nat.{ℕ, ◌+◌, ◌*◌, ◌≤◌}
+use Prim.Native.Nat.{ℕ, ◌+◌, ◌*◌, ◌%◌, ◌≤◌}
 use native.Mathlib.Omega.{arith}
 use lib.ListN.{length}
 use Rattle.definition.specs.Base.{least}
@@ -21,15 +21,15 @@ use Rattle.definition.specs.declared.Ask.{Ask}
 use Rattle.definition.specs.declared.Seen.{Seen}
 use Rattle.definition.specs.declared.After.{After}
 use Rattle.definition.specs.declared.Answer.{Answer}
-use Rattle.bits.specs.Bits.{bits_of, within}
+use Rattle.bits.specs.Bits.{within}
 use Rattle.bags.specs.Bags.{bag_seal}
 use Rattle.internal.specs.Fits.{PlaceFits}
 use Rattle.words.specs.Words.{named, word_in, Made}
 use Rattle.words.proofs.Laws.{length-left-nodes, comes_to, comes_in, made-left}
 use Rattle.follow.specs.Follow.{Follows, Followed}
 use Rattle.step.specs.Steps.{Steps, Leaves}
-use Rattle.step.proofs.Laws.{own, ask, after, left, size, asked_in, words_there, look_for, own_loaded, place_ok, ask_is, after_is, carries, step_is}
-use Rattle.step.proofs.Carry.{may_carry, carried-leaves}
+use Rattle.step.proofs.Laws.{own, ask, after, left, size, asked_in, words_there, few_nodes, look_for, own_loaded, place_ok, ask_is, after_is, carries, step_is}
+use Rattle.step.proofs.Carry.{places_for, may_carry, carried-leaves}
 
 -- what the callees promise: the lists are l, and l₁ after the access; where they are only read they are r and r₁
 pub record Chain (N M p : ℕ) (marked : Bool) (l r : Lent) (o : Participant) (free : ℕ) (x : Ask) (seen : Seen) (l₁ r₁ : Lent)
@@ -51,9 +51,8 @@ module _ (N M p : ℕ) (l : Lent) (f : List ℕ) (s : Steps N M p l f) (r : Lent
   pub words_ok : global_words + bit_words N + bit_words M ≤ length r.globals
   words_ok = rw e (words_there N M p l s.sound s.below s.present)
 
-  pub bits_ok : (ws : List ℕ) → length ws ≡ bit_words M → bits_of ws ≡ node_bits N M r.globals
-      → (length ws ≤ 64) × (within (length ws) M (bits_of ws) ≡ true)
-  bits_ok ws few is = look_for N M p l s.sound s.below s.present ws few (rw e at is)
+  pub bits_ok : (M ≤ 4096) × (within (bit_words M) M (node_bits N M r.globals) ≡ true)
+  bits_ok = rw e (few_nodes N M p l s.sound s.below s.present, look_for N M p l s.sound s.below s.present)
 
   module _ (o : Participant) (loaded : o ≡ participant_of (record_at (cell participant_words r.participants p))) where
     loaded_so : o ≡ participant_of (record_at (cell participant_words l.participants p))
@@ -66,11 +65,13 @@ module _ (N M p : ℕ) (l : Lent) (f : List ℕ) (s : Steps N M p l f) (r : Lent
       pub perform_ok : word_in (named x) l
       perform_ok = rw (ask_is N M p l s.sound s.below s.present o loaded_so x asked) (asked_in N M p l s.sound s.below s.present)
 
-      pub nodes_ok : (marked : Bool) (seen : Seen) (l₁ : Lent) → Made marked x l seen l₁ → (r₁ : Lent) → r₁ ≡ l₁ → length r₁.nodes ≡ M * 3
+      pub nodes_ok : (marked : Bool) (seen : Seen) (l₁ : Lent) → Made marked x l seen l₁ → (r₁ : Lent) → r₁ ≡ l₁ → length r₁.nodes % 3 ≡ 0
       nodes_ok marked seen l₁ m r₁ again =
+          let nodes : length r₁.nodes ≡ M * 3 =
           ap (λ (l : Lent). length l.nodes) (again ∙ made-left marked x l seen l₁ m)
           ∙ length-left-nodes (comes_to marked x) l (comes_in marked x l perform_ok)
-          ∙ (size N M p l s.sound s.below s.present).nodes
+          ∙ (size N M p l s.sound s.below s.present).nodes in
+          omega arith
 
 module _ (N M p : ℕ) (marked : Bool) (l r : Lent) (f : List ℕ) (s : Steps N M p l f) (o : Participant) (free : ℕ) (x : Ask) (seen : Seen) (l₁ r₁ : Lent)
     (seal : ℕ) (a : After) (c : Chain N M p marked l r o free x seen l₁ r₁ seal a) where
@@ -95,7 +96,7 @@ module _ (N M p : ℕ) (marked : Bool) (l r : Lent) (f : List ℕ) (s : Steps N 
 
   -- `follow` may be called
   pub may_follow : Follows N p o.held o.share a l₁ f
-  may_follow = rw (o_is, a_is, left_is) (may_carry N M p _ _ _ (carries N M p l s.sound s.below s.present marked) f s.places)
+  may_follow = rw (o_is, a_is, left_is) (may_carry N M p _ _ _ (carries N M p l s.sound s.below s.present marked) f (places_for _ f s.places))
 
   -- and what it leaves is the definition's
   pub leaves-step : (w : Answer) (l' : Lent) (f' : List ℕ) → Followed N p o.held o.share a l₁ f w l' f'

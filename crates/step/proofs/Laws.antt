@@ -2,7 +2,6 @@
 -- computes are the definition's. Assumes nothing.
 use mathlib.Core.Path.{◌≡◌, refl, ap, sym, ◌∙◌}
 use mathlib.Core.Bool.{Bool, true, false, false≢true}
-use mathlib.Core.List.{List}
 use Prim.Native.Nat.{ℕ, ◌+◌, ◌≤◌, ◌<◌}
 use native.Mathlib.Omega.{arith}
 use native.Mathlib.Nat.{le_refl}
@@ -31,8 +30,8 @@ use Rattle.definition.proofs.Base.{count_least}
 use Rattle.definition.proofs.Lists.{Sized, sized_is}
 use Rattle.definition.proofs.Within.{PlaceIn, place_in_lem, AskIn, asks_in, WorkIn, AfterIn, follows_in}
 use Rattle.definition.proofs.Kept.{ask_word, PlacedIn, place-kept, ShareLe, share_falls}
-use Rattle.bits.specs.Bits.{bits_of, within}
-use Rattle.bits.proofs.Laws.{bits_in_is, within_words}
+use Rattle.bits.specs.Bits.{within}
+use Rattle.bits.proofs.Laws.{bits_in_is}
 use Rattle.bags.specs.Bags.{bag_seal}
 use Rattle.bags.proofs.Nodes.{bag-epoch}
 use Rattle.internal.specs.Fits.{PlaceFits}
@@ -208,18 +207,18 @@ module _ (N M p : ℕ) (l : Lent) (s : Sound N M l) (hp : p < N) (present : miss
 
   -- ---- the values that the code computes are these
 
-  -- the free node is looked for in words that the list has
+  -- the free node is looked for in words that the list has, and that are few
   pub words_there : global_words + bit_words N + bit_words M ≤ length l.globals
   unfolding global_words
   words_there = rw size.globals (omega arith)
 
+  pub few_nodes : M ≤ 4096
+  few_nodes = small.1.1.1
+
   -- of which none has a bit that stands for no node
-  pub look_for : (ws : List ℕ) → length ws ≡ bit_words M → bits_of ws ≡ node_bits N M l.globals
-      → (length ws ≤ 64) × (within (length ws) M (bits_of ws) ≡ true)
+  pub look_for : within (bit_words M) M (node_bits N M l.globals) ≡ true
   unfolding tables_of
-  look_for ws few is =
-      let m = small.1.1.1 in
-      (rw few (unfold bit_words in omega (arith, m)), within_words ws (bit_words M) M _ few is ∙ sym (bits_in_is N M M tables.node_free) ∙ known.nodes)
+  look_for = sym (bits_in_is N M M tables.node_free) ∙ known.nodes
 
   module _ (o : Participant) (loaded : o ≡ participant_of (record_at (cell participant_words l.participants p))) where
     pub own_loaded : o ≡ own

@@ -4,7 +4,7 @@
 // The code is a chain of calls; that each of them may be made, and that together they are the definition's step, is proofs/Laws.
 #![tactic(auto)]
 
-ghost use Rattle.std.specs.Prelude.{◌≡◌, ◌*◌, length};
+ghost use Rattle.std.specs.Prelude.{◌≡◌, ◌%◌, length};
 ghost use Rattle.definition.specs.Layout.{tables_of};
 ghost use Rattle.definition.specs.Links.{index};
 ghost use Rattle.definition.specs.Step.{take_marked};
@@ -12,26 +12,26 @@ ghost use Rattle.lent.specs.Lists.{lent, Same};
 ghost use Rattle.bags.specs.Bags.{bag_seal};
 ghost use Rattle.step.specs.Steps.{Steps, Leaves};
 
-use bits::{first_free, node_bits};
+use bits::FreeBits;
 use definition::{Answer, Node, Slot};
 use flow::links::node_at;
 use follow::follow;
 use internal::{asks_at, follows_at};
-use lent::{ListsMut, NODE_WORDS, SEAL};
+use lent::{ListsMut, NODE_WORDS, SEAL, row};
 use records::load;
 use words::perform;
 
-// Returns the seal of the bag in the node that a word names, of `m` nodes. Where it names none there is no seal to look at: 0.
+// Returns the seal of the bag in the node that a word names, of a list of whole rows. Where it names none of them there is no seal to look at: 0.
 // (No Option: it is total as `bag_seal` is, since the definition's table of bags, `bag_from` of specs/Layout, has 0 beyond the list.)
-fn seal_of(nodes: &[u64], m: usize, value: u64) -> u64
-    requires { length nodes.now ≡ m * 3 }
+fn seal_of(nodes: &[u64], value: u64) -> u64
+    requires { length nodes.now % 3 ≡ 0 }
     ensures { result ≡ bag_seal nodes.now (index value) }
 {
     let Node(i) = node_at(value);
-    if i < m as u64 {
-        nodes[i as usize * NODE_WORDS + SEAL]
-    } else {
-        0
+    let (rows, _) = nodes.as_chunks::<NODE_WORDS>();
+    match rows.get(i as usize) {
+        Some(row) => row[SEAL],
+        None => 0,
     }
 }
 
@@ -44,12 +44,12 @@ pub fn take_step(l: &mut ListsMut<'_>, p: usize, marked: bool, freed: &mut [u64]
 {
     let (n, m) = (l.n, l.m);
     let lists = l.read();
-    let o = load(lists.participants, p);
-    let spare = first_free(node_bits(lists.globals, n, m), m);
+    let o = load(row(lists.participants, p));
+    let spare = FreeBits::nodes(n, m).first_free(lists.globals);
     let me = Slot(p as u64);
     let ask = asks_at(me, o);
     let seen = perform(l, ask, marked);
-    let seal = seal_of(l.read().nodes, m, seen.value);
+    let seal = seal_of(l.read().nodes, seen.value);
     let after = follows_at(me, Node(spare as u64), seal, o, seen);
     follow(l, p, o, after, freed)
 }

@@ -4,12 +4,15 @@
 // memory does, the promises here say which of them move.
 #![tactic(auto)]
 
-ghost use Rattle.std.specs.Prelude.{◌≡◌, ◌<◌, length, take, decimal, IfOk, OnOk};
+ghost use Rattle.std.specs.Prelude.{◌<◌, length, take, decimal, IfOk, OnOk};
 ghost use Rattle.std.specs.Io.KnownBytes.{Consumes, IsAtEnd, Appends};
 ghost use Rattle.stream.specs.Blocks.{IsGivenTo};
 ghost use Rattle.stream.specs.Counts.{IsPrefixLen};
 
 use std::io::{self, Read, Write};
+
+// How many bytes a program reads at once, and writes.
+pub const BLOCK: usize = 65536;
 
 // Gives what is left of a reader's input to `f`, block by block: each is as long as `block`, but for the last, which is shorter. Ends after
 // that, or after more blocks than any run reads, since a proved loop has to end and nothing says that an input does. Fails where a read
@@ -50,7 +53,8 @@ pub fn read_full<R: Read>(reader: &mut R, buf: &mut [u8]) -> io::Result<usize>
     Ok(done)
 }
 
-// Writes a number in decimal, with no line end. (The programs write by `write!`; two edits and two tests hold this to what that promises.)
+// Writes a number in decimal, with no line end. (The programs print by `write!` themselves. This function stays, since two must-fail edits and two tests
+// are about it: they hold `write!` to what it promises.)
 pub fn write_decimal<W: Write>(writer: &mut W, v: u64) -> io::Result<()>
     ensures { OnOk result (Appends (W.contents writer.old) (W.contents writer.new) (decimal v)) }
 {

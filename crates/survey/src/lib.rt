@@ -12,36 +12,32 @@ ghost use Rattle.refusals.specs.Numbers.{number};
 ghost use Rattle.survey.specs.States.{state_number};
 ghost use Rattle.survey.specs.Surveys.{blank, tabulate, report_in, survey_refusal};
 
-use checks::{Whole, slot_free};
+use bits::FreeBits;
+use checks::Whole;
 use definition::Report;
 use epoch::Epoch;
 use flow::links::is_tagged;
 use internal::places::is_register;
-use lent::{ENTRY_NEXT, GLOBAL_EPOCH, Lists, PARTICIPANT_WORDS};
+use lent::{ENTRY_NEXT, GLOBAL_EPOCH, Lists, row};
 use records::load;
 use refusals::{Refusal, refuse_if};
 
-// The states of a slot.
+// The states of a slot, with document 01's numbers.
 #[derive(Clone, Copy, Debug, PartialEq, Eq)]
 pub enum State {
-    Free,
-    Registering,
-    Registered,
-    Deleted,
+    Free = 0,
+    Registering = 1,
+    Registered = 2,
+    Deleted = 3,
 }
 
-// A state as a report has it: document 01's number. (The list of reports is the caller's, and may hold any word before.)
+// A state as a report has it: its number. (The list of reports is the caller's, and may hold any word before.)
 #[tactic(auto, unfolding(crate::specs::States::state_number))]
 impl From<State> for u64 {
     ghost from_gives = { λ s n. n ≡ state_number s };
 
     fn from(s: State) -> u64 {
-        match s {
-            State::Free => 0,
-            State::Registering => 1,
-            State::Registered => 2,
-            State::Deleted => 3,
-        }
+        s as u64
     }
 }
 
@@ -67,27 +63,24 @@ fn blank(state: State) -> Report
 {
     Report {
         state: u64::from(state),
-        guards: 0,
-        handles: 0,
-        held: 0,
-        distance: 0,
+        ..Report::default()
     }
 }
 
 // Returns the report of participant `p`, in which a slot that is free or deleted has its state alone. (It takes the two lists that it reads:
 // `report_in` is the same for every number of participants and nodes.)
-#[tactic(auto, unfolding(definition::specs::Ranges::bit_words))]
+#[tactic(auto, unfolding(definition::specs::Ranges::bit_words, definition::specs::Layout::global_words))]
 pub fn report_of(globals: &[u64], participants: &[u64], p: usize) -> Report
     requires { (5 + p / 64 < length globals.now) × (p * 21 + 21 ≤ length participants.now) }
     ensures { result ≡ report_in globals.now participants.now p }
 {
-    // any number of slots that p is one of will do
-    let free = slot_free(globals, p + 1, p);
-    let next = participants[p * PARTICIPANT_WORDS + ENTRY_NEXT];
-    let o = load(participants, p);
-    let state = state_of(free, is_tagged(next), is_register(o.place));
+    // `FreeBits::slots` wants a number of slots of which `p` is one; any such number gives the same answer
+    let free = FreeBits::slots(p + 1).is_free(globals, p);
+    let row = row(participants, p);
+    let o = load(row);
+    let state = state_of(free, is_tagged(row[ENTRY_NEXT]), is_register(o.place));
     let global = Epoch(globals[GLOBAL_EPOCH]);
-    let word = Epoch(participants[p * PARTICIPANT_WORDS]);
+    let word = Epoch(row[0]);
     match state {
         State::Free | State::Deleted => blank(state),
         State::Registering | State::Registered => Report {
@@ -100,15 +93,14 @@ pub fn report_of(globals: &[u64], participants: &[u64], p: usize) -> Report
     }
 }
 
-// Fills the places of the first participants with their reports, one for each. (It asks for the words that it reads, not for lists that are whole;
-// and writes by index, since what is written through `iter_mut` is lost to the proof.)
+// Fills the places of the first participants with their reports, one for each. (It asks for the words that it reads, not for lists that are whole.)
 #[tactic(auto, unfolding(definition::specs::Ranges::bit_words))]
 pub fn fill_reports(l: Lists<'_>, list: &mut [Report])
     requires { (l.n ≤ length list.old) × ((bit_words l.n ≤ length l.globals.now - 5) × (l.n * 21 ≤ length l.participants.now)) }
     ensures { list.new ≡ tabulate (report_in l.entry.globals.now l.entry.participants.now) l.entry.n ++ drop l.entry.n list.old }
 {
-    for p in 0..l.n {
-        list[p] = report_of(l.globals, l.participants, p);
+    for (p, report) in list[..l.n].iter_mut().enumerate() {
+        *report = report_of(l.globals, l.participants, p);
     }
 }
 

@@ -10,6 +10,7 @@ use Rattle.definition.specs.Layout.{Lent, shared_from}
 use Rattle.definition.specs.declared.Word.{Word}
 use Rattle.definition.specs.declared.Ask.{Ask}
 use Rattle.definition.specs.declared.Seen.{Seen}
+use Rattle.words.specs.declared.Home.{Home}
 
 -- the shared words of the lists
 abbrev pub shared_of : Lent → Shared
@@ -36,6 +37,16 @@ word_in (Word.ParticipantWord i) l = i.0 * 21 + 21 ≤ length l.participants
 word_in Word.QueueHead l = 4 ≤ length l.globals
 word_in Word.QueueTail l = 4 ≤ length l.globals
 word_in (Word.NodeNext k) l = k.0 * 3 + 3 ≤ length l.nodes
+
+-- where a word stands: at an index of `globals`, in a row and a column of `participants`, or first in a row of `nodes`
+abbrev pub home_of : Word → Home
+home_of Word.GlobalEpoch = Home.Globals 0
+home_of Word.ListHead = Home.Globals 1
+home_of (Word.EntryNext i) = Home.Participants i.0 1
+home_of (Word.ParticipantWord i) = Home.Participants i.0 0
+home_of Word.QueueHead = Home.Globals 2
+home_of Word.QueueTail = Home.Globals 3
+home_of (Word.NodeNext k) = Home.Nodes k.0
 
 -- what a store of v to a word does to each list
 unfoldable pub write_globals : Word → ℕ → List ℕ → List ℕ

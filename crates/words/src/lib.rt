@@ -7,12 +7,13 @@
 // A step may be marked (document 02, No. 2): then its `compare_exchange_weak` fails although the value agrees. No other access looks at the mark.
 //
 // Each promise says what the access sees, as specs/Rule of `definition` has it, and all the lists afterwards, as specs/Words has
-// them. What is required is only that the word named lies in the lists.
+// them. What is required is only that the word named lies in the lists; by `requires`, since a type with a `&mut` in it can hold no fact about what
+// is lent.
 #![tactic(auto)]
 
 ghost use Rattle.std.specs.Prelude.{◌≡◌, false};
 ghost use Rattle.lent.specs.Lists.{read, lent, Same};
-ghost use Rattle.words.specs.Words.{named, word_in, word_of, write_lent, Made};
+ghost use Rattle.words.specs.Words.{home_of, named, word_in, word_of, write_lent, Made};
 
 use definition::{Ask, Seen, Word};
 use lent::{
@@ -20,37 +21,56 @@ use lent::{
     QUEUE_HEAD, QUEUE_TAIL,
 };
 
+// Where a shared word stands.
+#[derive(Clone, Copy)]
+enum Home {
+    // At this index of `globals`.
+    Globals(usize),
+    // In this row of `participants`, in this column.
+    Participants(usize, usize),
+    // First in this row of `nodes`.
+    Nodes(usize),
+}
+
+// Returns where a shared word stands.
+fn home_of(w: Word) -> Home
+    ensures { result ≡ home_of w }
+{
+    match w {
+        Word::GlobalEpoch => Home::Globals(GLOBAL_EPOCH),
+        Word::ListHead => Home::Globals(LIST_HEAD),
+        Word::EntryNext(s) => Home::Participants(s.0 as usize, ENTRY_NEXT),
+        Word::ParticipantWord(s) => Home::Participants(s.0 as usize, 0),
+        Word::QueueHead => Home::Globals(QUEUE_HEAD),
+        Word::QueueTail => Home::Globals(QUEUE_TAIL),
+        Word::NodeNext(n) => Home::Nodes(n.0 as usize),
+    }
+}
+
 // Returns the value of a shared word.
+#[tactic(auto, using(crate::proofs::Homes::stands))]
 pub fn read_word(l: Lists<'_>, w: Word) -> u64
     requires { word_in w (read l) }
     ensures { result ≡ word_of w (read l.entry) }
 {
-    match w {
-        Word::GlobalEpoch => l.globals[GLOBAL_EPOCH],
-        Word::ListHead => l.globals[LIST_HEAD],
-        Word::EntryNext(s) => l.participants[s.0 as usize * PARTICIPANT_WORDS + ENTRY_NEXT],
-        Word::ParticipantWord(s) => l.participants[s.0 as usize * PARTICIPANT_WORDS],
-        Word::QueueHead => l.globals[QUEUE_HEAD],
-        Word::QueueTail => l.globals[QUEUE_TAIL],
-        Word::NodeNext(n) => l.nodes[n.0 as usize * NODE_WORDS],
+    match home_of(w) {
+        Home::Globals(i) => l.globals[i],
+        Home::Participants(p, i) => l.participants[p * PARTICIPANT_WORDS + i],
+        Home::Nodes(k) => l.nodes[k * NODE_WORDS],
     }
 }
 
 // Stores `v` to a shared word.
-#[tactic(auto, unfolding(crate::specs::Words::write_globals, crate::specs::Words::write_participants, crate::specs::Words::write_nodes))]
+#[tactic(auto, using(crate::proofs::Homes::stands))]
 pub fn write_word(l: &mut ListsMut<'_>, w: Word, v: u64)
     requires { word_in w (lent l.old) }
     ensures written { lent l.new ≡ write_lent w v (lent l.old) }
     ensures same { Same l.old l.new }
 {
-    match w {
-        Word::GlobalEpoch => l.globals[GLOBAL_EPOCH] = v,
-        Word::ListHead => l.globals[LIST_HEAD] = v,
-        Word::EntryNext(s) => l.participants[s.0 as usize * PARTICIPANT_WORDS + ENTRY_NEXT] = v,
-        Word::ParticipantWord(s) => l.participants[s.0 as usize * PARTICIPANT_WORDS] = v,
-        Word::QueueHead => l.globals[QUEUE_HEAD] = v,
-        Word::QueueTail => l.globals[QUEUE_TAIL] = v,
-        Word::NodeNext(n) => l.nodes[n.0 as usize * NODE_WORDS] = v,
+    match home_of(w) {
+        Home::Globals(i) => l.globals[i] = v,
+        Home::Participants(p, i) => l.participants[p * PARTICIPANT_WORDS + i] = v,
+        Home::Nodes(k) => l.nodes[k * NODE_WORDS] = v,
     }
 }
 

@@ -29,7 +29,7 @@ give-requires c =
     let i = c.loop-w in
     let k = bag_len a.nodes.now a.node in
     let is = sym c.in-Node.is ∙ c.item_of.ensures ∙ ap item_of (slice_word a.queued.now (a.node * 64) k i.w-index (omega arith)) in
-    rw c.node_bits_at.ensures (ltb-true _ _ (freed-has_bit i.invariant k _ c.requires.have_their_bits (omega arith) is))
+    rw c.nodes.ensures (ltb-true _ _ (freed-has_bit i.invariant k _ c.requires.have_their_bits (omega arith) is))
 
 pub give-requires-in-Slot : goal.give-requires-in-Slot
 unfolding has_bit
@@ -38,7 +38,7 @@ give-requires-in-Slot c =
     let i = c.loop-w in
     let k = bag_len a.nodes.now a.node in
     let is = sym c.in-Slot.is ∙ c.item_of.ensures ∙ ap item_of (slice_word a.queued.now (a.node * 64) k i.w-index (omega arith)) in
-    rw c.slot_bits_at.ensures (ltb-true _ _ (freed-has_bit i.invariant k _ c.requires.have_their_bits (omega arith) is))
+    rw c.slots.ensures (ltb-true _ _ (freed-has_bit i.invariant k _ c.requires.have_their_bits (omega arith) is))
 
 pub loop-w-preserved : goal.loop-w-preserved
 unfolding free_item tokens
@@ -51,8 +51,8 @@ loop-w-preserved c =
       | in-Token w ↦ rw (w.globals-is, w.freed-is, w.t-is) (freed_token i.invariant _ (omega arith) (sym w.in-Token.is ∙ is))
       | in-Node w ↦
           rw (w.globals-is, w.freed-is, w.t-is)
-          (freed_index i.invariant _ _ refl (omega arith) (sym w.in-Node.is ∙ is) (rw w.node_bits_at.ensures at w.give.ensures))
+          (freed_index i.invariant _ _ refl (omega arith) (sym w.in-Node.is ∙ is) (rw w.nodes.ensures at w.give.ensures))
       | in-Slot w ↦
           rw (w.globals-is, w.freed-is, w.t-is)
-          (freed_index i.invariant _ _ refl (omega arith) (sym w.in-Slot.is ∙ is) (rw w.slot_bits_at.ensures at w.give-in-Slot.ensures))
+          (freed_index i.invariant _ _ refl (omega arith) (sym w.in-Slot.is ∙ is) (rw w.slots.ensures at w.give-in-Slot.ensures))
     ]

@@ -16,7 +16,7 @@ loop-p-preserved g c =
     let p = c.loop-p.p in
     let step : suc p ≡ p + 1 = omega arith in
     let line = lines_more 0 reports p p _ (search rules) (omega arith) ∙ ap (λ n. lines_of 0 (take n reports)) step in
-    subst (Appends _ _) line (Appends-trans _ _ _ _ _ c.loop-p.invariant c.in_ok-say_report.ensures)
+    subst (Appends _ _) line (Appends-trans _ _ _ _ _ c.loop-p.invariant c.in_ok-write.ensures.bytes)
 
 pub returns : goal.returns
 returns g c =

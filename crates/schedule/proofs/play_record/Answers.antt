@@ -18,9 +18,8 @@ returns c =
     sized room c.action_of.ensures played (omega arith) in
     let again = line-same (owned t) t.freed c.args.bytes.now _ sized room same in
     record {
-      puts = rw (← same) c.put_line.ensures.puts;
-      same_line = rw (← again) c.put_line.ensures.puts;
+      puts = rw (← same) c.put.ensures;
+      same_line = rw (← again) c.put.ensures;
       lists_after = rw (← c.action_of.ensures) (ap (λ (o : Outcome). o.lent) played);
       freed_after = rw (← c.action_of.ensures) (ap (λ (o : Outcome). o.freed) played);
-      upper_bound = search rules;
     }

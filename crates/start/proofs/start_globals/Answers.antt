@@ -9,18 +9,18 @@ use Rattle.start.proofs.start_globals.Goals as goal
 
 pub give_from-requires : goal.give_from-requires
 unfolding bit_words global_words
-give_from-requires c = simp length-set (omega (arith, c.slot_bits_at.ensures, c.fill.ensures.len))
+give_from-requires c = rw c.slots.ensures (simp length-set (omega (arith, c.fill.ensures.len)))
 
 pub give_from-requires-2 : goal.give_from-requires-2
 unfolding bit_words global_words
 give_from-requires-2 c =
     let g = c.fill.new.self in
-    omega (arith, length-set (set g 2 2) 3 2, length-set g 2 2, c.fill.ensures.len, c.node_bits_at.ensures)
+    rw c.nodes.ensures (omega (arith, length-set (set g 2 2) 3 2, length-set g 2 2, c.fill.ensures.len))
 
 pub returns : goal.returns
 returns c =
     let pre = c.requires in
     globals-started _ _ pre.0 c.args.globals.now _ _ _ pre.1 (c.fill.ensures.after (λ y e. e))
-    (rw c.slot_bits_at.ensures at c.give_from.ensures)
-    (rw c.node_bits_at.ensures at c.give_from-2.ensures)
+    (rw c.slots.ensures at c.give_from.ensures)
+    (rw c.nodes.ensures at c.give_from-2.ensures)
     (λ j. (c.type_inv.globals j).fits)
