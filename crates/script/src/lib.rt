@@ -122,7 +122,7 @@ impl Line<'_> {
     }
 
     // Puts a number in decimal: what its tenth leaves, and then its last digit, so that no digit is moved. By hand, and not `write!`: std's `Write` of a
-    // slice promises nothing of the bytes, it answers with a `Result` where what has room always fits, and it takes 1.7 times as long.
+    // slice promises nothing of the bytes, and it answers with a `Result` where what has room always fits.
     fn put_decimal(&mut self, v: u64)
         requires { self.old.at + 20 ≤ length self.old.out.now }
         ensures { Adds self.old (decimal v) self.new }
