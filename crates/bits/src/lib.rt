@@ -7,7 +7,7 @@
 // changes nothing.
 #![tactic(auto)]
 
-ghost use Rattle.std.specs.Prelude.{◌≡◌, true, ◌+◌, ◌*◌, ◌/◌, ◌^◌, ◌≤◌, ◌<◌, ℕ, length, slice_index};
+ghost use Rattle.std.specs.Prelude.{◌≡◌, true, ◌+◌, ◌/◌, ◌^◌, ◌≤◌, ◌<◌, ℕ, length, slice_index};
 ghost use Rattle.definition.specs.Base.{count, least};
 ghost use Rattle.definition.specs.Ranges.{bit_words};
 ghost use Rattle.bits.specs.Bits.{bits_of, slots, nodes, free_in, within, taken, given};
