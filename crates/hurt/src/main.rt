@@ -8,7 +8,8 @@
 // changed no word is looked at here, word by word.
 #![tactic(auto)]
 
-ghost use Rattle.std.specs.Prelude.{◌+◌, ◌<◌, ◌≤◌, length};
+ghost use Rattle.std.specs.Prelude.{◌+◌, ◌<◌, ◌≤◌, length, Some};
+ghost use Rattle.hurt.specs.Lines.{line_of};
 
 use definition::{Answer, Call};
 use lent::{BAG_WORDS, GLOBAL_WORDS, ListsMut, NODE_WORDS, PARTICIPANT_WORDS};
@@ -214,9 +215,12 @@ impl Tally {
     }
 }
 
+// The line of a moment, with its end.
 impl fmt::Display for Tally {
+    ghost output = { λ t. Some (line_of t) };
+
     fn fmt<W: fmt::Write>(&self, f: &mut fmt::Formatter<W>) -> fmt::Result {
-        write!(
+        writeln!(
             f,
             "{} damaged, {} refused, {} done, {} more, sum {}, changed by a refusal {}",
             self.damaged, self.refused, self.done, self.more, self.sum, self.wrong
@@ -252,7 +256,7 @@ fn run<W: Write>(writer: &mut W, block: &[u8], t: &mut Tables) -> io::Result<()>
         t.play(&kept, script::action_of(bytes));
         kept = t.words();
         if i % EVERY == 0 {
-            writeln!(writer, "{}", try_moment(&kept, i as u64, t))?;
+            write!(writer, "{}", try_moment(&kept, i as u64, t))?;
         }
     }
     Ok(())

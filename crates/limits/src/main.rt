@@ -3,7 +3,8 @@
 // implementation (oracle/limits.py), not by this code.
 #![tactic(auto)]
 
-ghost use Rattle.std.specs.Prelude.{◌+◌, ◌*◌, ◌≤◌};
+ghost use Rattle.std.specs.Prelude.{◌≡◌, ◌+◌, ◌*◌, ◌≤◌, Some};
+ghost use Rattle.limits.specs.Lines.{answer_text, line_of};
 
 use bits::bit_words;
 use definition::{Answer, Call};
@@ -70,10 +71,13 @@ fn ask(l: &mut ListsMut<'_>, freed: &mut [u64]) -> [Answer; 4] {
     ]
 }
 
-// Lends lists of the lengths of a case, which no type says: the cases are about wrong ones.
+// Tries a case and returns its line. No type says the lengths of the lists that it lends: the cases are about wrong ones.
 #[tactic(auto, unfolding(definition::specs::Ranges::bit_words))]
-fn try_case(b: &mut Buffers, n: usize, m: usize, case: usize) -> [Answer; 4]
+fn try_case(b: &mut Buffers, n: usize, m: usize, case: usize) -> Line
     requires { (n ≤ N) × (m ≤ M) }
+    ensures n { result.n ≡ n }
+    ensures m { result.m ≡ m }
+    ensures case { result.case ≡ case }
 {
     let Buffers {
         globals,
@@ -95,7 +99,16 @@ fn try_case(b: &mut Buffers, n: usize, m: usize, case: usize) -> [Answer; 4]
         held: &mut held[..lent_length(n * BAG_WORDS, case, 3)],
         queued: &mut queued[..lent_length(m * BAG_WORDS, case, 4)],
     };
-    ask(&mut l, &mut freed[..places(case)])
+    let [start, register, pin, step] = ask(&mut l, &mut freed[..places(case)]);
+    Line {
+        n,
+        m,
+        case,
+        start: Said(start),
+        register: Said(register),
+        pin: Said(pin),
+        step: Said(step),
+    }
 }
 
 // An answer as a line says it. A type of its own, since `Answer` is the definition's.
@@ -103,6 +116,8 @@ fn try_case(b: &mut Buffers, n: usize, m: usize, case: usize) -> [Answer; 4]
 struct Said(Answer);
 
 impl fmt::Display for Said {
+    ghost output = { λ s. Some (answer_text s.0) };
+
     fn fmt<W: fmt::Write>(&self, f: &mut fmt::Formatter<W>) -> fmt::Result {
         match self.0 {
             Answer::Done(v, _) => write!(f, "done {v}"),
@@ -112,16 +127,36 @@ impl fmt::Display for Said {
     }
 }
 
+// What a line says: the sizes, the case and its four answers. One value, so that the text of the whole line is one promise.
+#[derive(Drop)]
+struct Line {
+    n: usize,
+    m: usize,
+    case: usize,
+    start: Said,
+    register: Said,
+    pin: Said,
+    step: Said,
+}
+
+impl fmt::Display for Line {
+    ghost output = { λ l. Some (line_of l) };
+
+    fn fmt<W: fmt::Write>(&self, f: &mut fmt::Formatter<W>) -> fmt::Result {
+        writeln!(
+            f,
+            "N {}, M {}, case {}, {}, {}, {}, {}",
+            self.n, self.m, self.case, self.start, self.register, self.pin, self.step
+        )
+    }
+}
+
 // Tries all cases: each number of participants with each of nodes, and thirteen sets of lengths for each pair.
 fn try_all<W: Write>(writer: &mut W, b: &mut Buffers) -> io::Result<()> {
     for n in PARTICIPANTS_TRIED {
         for m in NODES_TRIED {
             for case in 0..13 {
-                write!(writer, "N {n}, M {m}, case {case}")?;
-                for answer in try_case(b, n, m, case) {
-                    write!(writer, ", {}", Said(answer))?;
-                }
-                writeln!(writer)?;
+                write!(writer, "{}", try_case(b, n, m, case))?;
             }
         }
     }

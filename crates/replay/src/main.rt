@@ -7,8 +7,9 @@
 // schedules, records and words it compared, and how many differ.
 #![tactic(auto)]
 
-ghost use Rattle.std.specs.Prelude.{◌+◌, ◌*◌, ◌<◌, ◌≤◌, length, IfSome};
+ghost use Rattle.std.specs.Prelude.{◌+◌, ◌*◌, ◌<◌, ◌≤◌, length, decimal, IfSome, Some};
 ghost use Rattle.definition.specs.Ranges.{bit_words};
+ghost use Rattle.replay.specs.Lines.{course_text, difference_text, number_of};
 
 use bits::{FreeBits, bit_words};
 use definition::Answer;
@@ -238,6 +239,8 @@ enum Where {
 
 // Shown by its number: a cell's own is below `CELLS`.
 impl fmt::Display for Where {
+    ghost output = { λ w. Some (decimal (number_of w)) };
+
     fn fmt<W: fmt::Write>(&self, f: &mut fmt::Formatter<W>) -> fmt::Result {
         let number = match *self {
             Where::Cell(cell) => cell,
@@ -295,6 +298,22 @@ struct Difference {
     at: Where,
 }
 
+// Its two lines, with the numbers that stand for an answer and for freed tokens. A text of its own: with all seven writes in that of the course its proof
+// did not close.
+impl fmt::Display for Difference {
+    ghost output = { λ d. Some (difference_text d) };
+
+    fn fmt<W: fmt::Write>(&self, f: &mut fmt::Formatter<W>) -> fmt::Result {
+        let Difference { line, at } = *self;
+        let (answer, freed) = (Where::Answer, Where::Freed);
+        writeln!(f, "{line} is the line of the first")?;
+        writeln!(
+            f,
+            "{at} is its cell, {answer} the answer, {freed} the freed tokens"
+        )
+    }
+}
+
 // What was counted, and a difference of the first record that has one: its last.
 #[derive(Clone, Copy, Default)]
 struct Course {
@@ -325,21 +344,18 @@ impl Course {
 
 // What was compared, how many differ, and where that difference is.
 impl fmt::Display for Course {
+    ghost output = { λ c. Some (course_text c) };
+
     fn fmt<W: fmt::Write>(&self, f: &mut fmt::Formatter<W>) -> fmt::Result {
         writeln!(f, "{} schedules", self.schedules)?;
         writeln!(f, "{} records", self.records)?;
         writeln!(f, "{} words", self.words)?;
         writeln!(f, "{} lines not understood", self.odd)?;
         writeln!(f, "{} differences", self.differ)?;
-        if let Some(Difference { line, at }) = self.first {
-            writeln!(f, "{line} is the line of the first")?;
-            let (answer, freed) = (Where::Answer, Where::Freed);
-            writeln!(
-                f,
-                "{at} is its cell, {answer} the answer, {freed} the freed tokens"
-            )?;
+        match self.first {
+            Some(difference) => write!(f, "{difference}"),
+            None => Ok(()),
         }
-        Ok(())
     }
 }
 

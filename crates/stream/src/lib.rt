@@ -1,4 +1,5 @@
-// A program's input block by block, and a number written, at any reader and any writer.
+// A program's input block by block, at any reader; and a number written, at any writer, which no program calls: what the programs print is promised where
+// each prints it, by specs/Lines of report, replay, hurt and limits, and of schedule by crate `script`.
 //
 // What comes from the system and goes to it is outside every promise; where a reader or a writer says which bytes it has, as one over
 // memory does, the promises here say which of them move.
