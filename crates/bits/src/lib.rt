@@ -12,7 +12,8 @@ ghost use Rattle.definition.specs.Base.{count, least};
 ghost use Rattle.definition.specs.Ranges.{bit_words};
 ghost use Rattle.bits.specs.Bits.{bits_of, slots, nodes, free_in, within, taken, given};
 
-use lent::GLOBAL_WORDS;
+// Words of the list before the free bits: those of the global words that are no bits (crate `lent` names them, and hands this number on).
+pub const GLOBAL_WORDS: usize = 5;
 
 // Returns how many words `n` bits take.
 #[tactic(auto, unfolding(definition::specs::Ranges::bit_words))]
@@ -32,6 +33,28 @@ pub fn bits_in(words: &[u64], n: usize) -> bool
         return true;
     }
     words[j] >> (n % 64) == 0 && words[j + 1..].iter().all(|w| *w == 0)
+}
+
+// Returns the smallest free index, or `n` where none is free, as the definition's `least` does (so it is no `Option`): the lowest set bit of the first
+// word that has one. (It takes any few words, for any `n`, as `bits_in` does.)
+pub fn first_free(words: &[u64], n: usize) -> usize
+    requires few { length words.now ≤ 64 }
+    requires none_beyond { within (length words.now) n (bits_of words.now) ≡ true }
+    ensures { result ≡ least n (bits_of words.now) }
+{
+    match words.iter().position(|w| *w != 0) {
+        Some(j) => 64 * j + words[j].trailing_zeros() as usize,
+        None => n,
+    }
+}
+
+// Returns how many of the indices below `n` are free. (Of any few words, for any `n`.)
+pub fn count_free(words: &[u64], n: usize) -> u64
+    requires few { length words.now ≤ 64 }
+    requires none_beyond { within (length words.now) n (bits_of words.now) ≡ true }
+    ensures { result ≡ count n (bits_of words.now) }
+{
+    words.iter().map(|w| u64::from(w.count_ones())).sum()
 }
 
 // The free bits of a table of `size` indices: in the words of the list from `at` on.
@@ -83,34 +106,26 @@ impl FreeBits {
         (globals[self.at + i / 64] >> (i % 64)) % 2 == 1
     }
 
-    // Returns the smallest free index, or `size` where none is free, as the definition's `least` does (so it is no `Option`): the lowest set bit
-    // of the first word that has one.
-    #[tactic(auto, unfolding(definition::specs::Ranges::bit_words))]
+    // Returns the smallest free index, or `size` where none is free.
+    #[tactic(auto, using(crate::proofs::Laws::within_words), unfolding(definition::specs::Ranges::bit_words))]
     pub fn first_free(self, globals: &[u64]) -> usize
         requires few { self.size ≤ 4096 }
         requires there { self.at + bit_words self.size ≤ length globals.now }
         requires none_beyond { within (bit_words self.size) self.size (free_in self globals.now) ≡ true }
         ensures { result ≡ least self.size (free_in self globals.now) }
     {
-        let words = self.words(globals);
-        match words.iter().position(|w| *w != 0) {
-            Some(j) => 64 * j + words[j].trailing_zeros() as usize,
-            None => self.size,
-        }
+        first_free(self.words(globals), self.size)
     }
 
     // Returns how many indices are free.
-    #[tactic(auto, unfolding(definition::specs::Ranges::bit_words))]
+    #[tactic(auto, using(crate::proofs::Laws::within_words), unfolding(definition::specs::Ranges::bit_words))]
     pub fn count_free(self, globals: &[u64]) -> u64
         requires few { self.size ≤ 4096 }
         requires there { self.at + bit_words self.size ≤ length globals.now }
         requires none_beyond { within (bit_words self.size) self.size (free_in self globals.now) ≡ true }
         ensures { result ≡ count self.size (free_in self globals.now) }
     {
-        self.words(globals)
-            .iter()
-            .map(|w| u64::from(w.count_ones()))
-            .sum()
+        count_free(self.words(globals), self.size)
     }
 
     // Returns whether no bit at `size` or beyond is set.

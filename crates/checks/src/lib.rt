@@ -77,7 +77,9 @@ impl<'a> Whole<'a> {
         FreeBits::nodes(l.n, l.m).count_free(l.globals)
     }
 
-    // Returns participant `p`, if it is there: its index is below `n`, its slot is not free, and it is not both deleted and at rest.
+    // Returns participant `p`, if it is there: its index is below `n`, its slot is not free, and it is not both deleted and at rest. (Inlined: else all of
+    // the participant and of the lists is copied out, or cleared where it is refused.)
+    #[inline(always)]
     #[tactic(auto, using(crate::proofs::Laws::absent_words), unfolding(definition::specs::Layout::global_words, definition::specs::Layout::slot_bits))]
     fn present(self, p: usize) -> Result<Standing<'a>, Refusal>
         ensures { MatchResult result

@@ -13,8 +13,9 @@ ghost use Rattle.lent.specs.Lists.{read, lent};
 
 use flow::Bag;
 
-// Words of `globals` before the free bits: the global epoch, the head of the list, both ends of the queue, the set-aside total.
-pub const GLOBAL_WORDS: usize = 5;
+// Words of `globals` before the free bits: the global epoch, the head of the list, both ends of the queue, the set-aside total. (The number is of `bits`,
+// which has no use for the rest of this and stands below it.)
+pub use bits::GLOBAL_WORDS;
 
 pub const GLOBAL_EPOCH: usize = 0;
 

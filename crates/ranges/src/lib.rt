@@ -219,18 +219,14 @@ fn end_pointer_in(m: u64, w: u64) -> bool
     untagged_in(m, w) && 1 <= w / 2
 }
 
-// Returns whether a word is an item: a token, a node or a slot. (Not by `item_of` of bags, which reads every word as one.)
+// Returns whether a word is an item: a token, a node or a slot, below its kind's limit. (Not by `item_of` of bags, which reads every word as one. The
+// limit is looked up and no kind is matched: every call asks this of every item that is held, and a jump by the kind cannot be foreseen.)
 #[tactic(auto, unfolding(definition::specs::Ranges::item_in, definition::specs::Calls::max_token, definition::specs::Base::branch))]
 fn item_in(n: u64, m: u64, w: u64) -> bool
     ensures { result ≡ item_in n m w }
 {
-    let v = w / 4;
-    match w % 4 {
-        1 => v <= Deferred::MAX_TOKEN,
-        2 => v < m,
-        3 => v < n,
-        _ => false,
-    }
+    let limits = [0, Deferred::MAX_TOKEN + 1, m, n];
+    w / 4 < limits[(w % 4) as usize]
 }
 
 // Returns whether the words are items.
@@ -366,7 +362,8 @@ impl<'a> Measured<'a> {
     }
 
     // Returns whether every node is in range, with its bag. (A twin of `participants_in`: one function of both would take the test of a row as a closure, and
-    // its contract would have to say what that answers for each.)
+    // its contract would have to say what that answers for each. Not inlined: among the other looks its loop, the longest of a call, runs out of registers.)
+    #[inline(never)]
     fn nodes_in(self) -> bool
         ensures { result ≡ nodes_in self.entry.lists.n self.entry.lists.m (read self.entry.lists) }
     {
