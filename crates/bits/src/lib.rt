@@ -106,7 +106,8 @@ impl FreeBits {
         (globals[self.at + i / 64] >> (i % 64)) % 2 == 1
     }
 
-    // Returns the smallest free index, or `size` where none is free.
+    // Returns the smallest free index, or `size` where none is free. (This, `count_free` and `in_range` are the functions above on the words of the table;
+    // what is asked of the list, and promised of the table, is said here.)
     #[tactic(auto, using(crate::proofs::Laws::within_words), unfolding(definition::specs::Ranges::bit_words))]
     pub fn first_free(self, globals: &[u64]) -> usize
         requires few { self.size ≤ 4096 }
