@@ -108,11 +108,10 @@ module _ (N M : ℕ) (l : Lent) (f : List ℕ) (checks : Tables → List Check) 
 -- ---- a fresh start
 
 module _ (N M : ℕ) (l : Lent) where
-  -- sizes that are not right are refused
-  pub start_refuses : {A : Type 0} (c : Result A Refusal) (x : Refusal) → (number x ≡ 2) × (sizes N M l ≡ false)
-      → c ≡ Err x → (r : Answer) → r ≡ refused_as c → record { answer = r; lent = l; freed = [] } ≡ start_lent N M l
+  -- sizes that are not right are refused with 2
+  pub start_refuses : sizes N M l ≡ false → (r : Answer) → r ≡ Answer.Refused 2 → record { answer = r; lent = l; freed = [] } ≡ start_lent N M l
   unfolding start_lent lending branch
-  start_refuses c x e is r a = rw (a, is, e.0, e.1)
+  start_refuses h r a = rw (a, h)
 
   -- right ones are what a fresh start asks
   pub may_start : sizes N M l ≡ true → (1 ≤ M) × (sized N M l ≡ true)

@@ -63,9 +63,9 @@ module _ (N M : ℕ) (l : Lent) (before : List Report) where
       rw (w.limits, w.lengths, eq-eqb (length before) N f.0, w.range)
 
   -- what is refused is refused with its number, and the list stays
-  pub survey_refuses : {A : Type 0} (c : Result A Refusal) (x : Refusal) → number x ≡ survey_refusal N M l (length before)
-      → c ≡ Err x → (r : Answer) → r ≡ refused_as c → surveyed_as r before ≡ survey_lent N M l before
-  survey_refuses c x e is r a = rw (a, is) (says-refused (number x) e (positive x))
+  pub survey_refuses : {A : Type 0} (c : Result A Refusal) (x : Refusal) → number x ≡ survey_refusal N M l (length before) → c ≡ Err x
+      → (r : Answer) → r ≡ refused_as c → (after : List Report) → after ≡ before → surveyed_as r after ≡ survey_lent N M l before
+  survey_refuses c x e is r a after same = rw (a, is, same) (says-refused (number x) e (positive x))
 
   -- what is fine is filled
   pub survey_fills : survey_refusal N M l (length before) ≡ 0

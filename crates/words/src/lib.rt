@@ -61,7 +61,7 @@ pub fn read_word(l: Lists<'_>, w: Word) -> u64
 }
 
 // Stores `v` to a shared word.
-#[tactic(auto, using(crate::proofs::Homes::stands))]
+#[tactic(auto, using(crate::proofs::Homes::stores))]
 pub fn write_word(l: &mut ListsMut<'_>, w: Word, v: u64)
     requires { word_in w (lent l.old) }
     ensures written { lent l.new ≡ write_lent w v (lent l.old) }

@@ -1,7 +1,7 @@
 -- The token is in the bag where one of the words stands for it.
 use mathlib.Core.Path.{◌∙◌}
 use mathlib.Core.List.{[], ◌∷◌}
-use borrow.Author.Rules.{rules}
+use Rattle.std.proofs.Common.{rules, take_all}
 use Rattle.std.proofs.lemmas.Iterator.{YieldsList-from_slice}
 use Rattle.std.proofs.lemmas.Iterator.Search.{any_from_yields_List}
 use Rattle.definition.specs.Base.{among}
@@ -13,5 +13,5 @@ pub returns : goal.returns
 returns c =
     let a = c.args in
     any_from_yields_List (λ w. among a.token (tokens (item_of w ∷ []))) _ _ _ c.any.ensures.ran
-    (YieldsList-from_slice _ c.iter.ensures.rest) (λ x b q k. search rules)
+    (YieldsList-from_slice a.bag.now (c.iter.ensures.rest ∙ search (rules, take_all))) (λ x b q k. search rules)
     ∙ held_all a.token a.bag.now

@@ -1,5 +1,5 @@
 -- Sizes that are not right are refused, and right ones are what a fresh start asks.
-use mathlib.Core.Path.{sym, ◌∙◌}
+use Rattle.std.proofs.Common.{rules, sym, ◌∙◌}
 use Rattle.lent.proofs.Laws.{same_self, read_as}
 use Rattle.ranges.specs.Sizes.{sizes}
 use Rattle.reclaimer.proofs.Laws.{start_refuses, may_start, started}
@@ -10,7 +10,7 @@ returns-in_default c =
     let r = c.read.ensures in
     let e = c.in_default.ensures in
     let h = sym (read_as sizes c.read.result c.args.l.now r.n r.m r.lists) ∙ e.1 in
-    record { outcome = start_refuses _ _ _ _ _ (e.0, h) c.in_default.is _ c.refused.ensures; same = same_self _ }
+    record { outcome = start_refuses _ _ _ h _ (search rules); same = same_self _ }
 
 pub start-requires : goal.start-requires
 start-requires c =
